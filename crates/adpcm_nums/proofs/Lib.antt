@@ -1,0 +1,5 @@
+pub mod Wrap
+pub mod LeastLaws
+pub mod FirstLaws
+pub mod NearestLaws
+pub mod SpanLaws

@@ -1,0 +1,11 @@
+pub mod LeastValue
+pub mod Places
+pub mod FloorLaws
+pub mod States
+pub mod BlockFloors
+pub mod RestFloors
+pub mod Histories
+pub mod Lists
+pub mod PartLaws
+pub mod FloorParts
+pub mod Joins

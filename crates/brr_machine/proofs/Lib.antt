@@ -1,0 +1,13 @@
+pub mod Pairs
+pub mod Reading
+pub mod Runs
+pub mod Sizes
+pub mod Fill
+pub mod ZeroCosts
+pub mod ZeroSums
+pub mod Predictions
+pub mod Picks
+pub mod Multiples
+pub mod PlainCodes
+pub mod FloorParts
+pub mod FloorTable

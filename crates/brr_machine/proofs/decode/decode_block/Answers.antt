@@ -1,0 +1,29 @@
+use Rattle.std.proofs.Common.{rules, arith, ◌≡◌, ◌<◌, ◌∙◌, ap, length, w32, ℕ}
+use mir.Val.{SFits}
+use Rattle.std.proofs.lemmas.Grind.{common_steps}
+use Rattle.std.proofs.lemmas.Int.{to_z-of_z}
+use Rattle.brr_machine.specs.Brr.{output_of}
+use Rattle.brr_machine.specs.Spelling.{head_in, code_in}
+use Rattle.brr_machine.specs.Laws.States.{last_bounds, state_in_range}
+use Rattle.brr_machine.proofs.Runs.{run_more, outputs_more}
+use Rattle.brr_machine.proofs.decode.decode_block.Goals as goal
+
+pub loop-place-preserved : goal.loop-place-preserved
+loop-place-preserved c =
+    let bytes = c.args.bytes.now in
+    let at = c.loop-place.state in
+    let output = c.brr_output-output.result in
+    let fits : SFits w32 output = search rules in
+    let last : SFits w32 at.a = search rules in
+    let within : c.loop-place.place < length c.loop-place.outputs = omega arith in
+    let sounds : output ≡ output_of (head_in bytes 0) (code_in bytes 0 c.loop-place.place) at.a at.b =
+    c.brr_output-output.ensures.value
+    ∙ ap (λ (h : ℕ). output_of h c.from.result at.a at.b) c.head_at-head.ensures.value
+    ∙ ap (λ (k : ℕ). output_of (head_in bytes 0) k at.a at.b) (c.from.ensures ∙ c.code_at.ensures.value) in
+    simp to_z-of_z (record {
+      len = grind (arith, common_steps);
+      outputs = outputs_more (head_in bytes 0) (code_in bytes 0) c.args.from c.loop-place.place at output c.loop-place.outputs
+          c.loop-place.invariant.state sounds within c.loop-place.invariant.outputs;
+      state = run_more (head_in bytes 0) (code_in bytes 0) c.args.from c.loop-place.place at output c.loop-place.invariant.state sounds;
+      range = state_in_range output at.a (record { low = c.brr_output-output.ensures.low; high = c.brr_output-output.ensures.high }) (last_bounds at c.loop-place.invariant.range);
+    })

@@ -1,0 +1,24 @@
+-- What the decoder of BRR means to all that bounds, searches and checks its lists of blocks.
+use Rattle.std.specs.Prelude.{ℕ, ◌+◌, ◌*◌, min, ℤ, List, get_or}
+use Rattle.machine_core.specs.declared.state.Kind.TheVariants.{Brr}
+use Rattle.machine_core.specs.Rules.{Rules}
+use Rattle.brr_machine.specs.Brr.{brr, shift_of, filter_of}
+use Rattle.brr_machine.specs.Boxes.{is_brr_box, all_states}
+use Rattle.brr_machine.specs.Floors.{brr_floor}
+
+-- from shift 13 on the shift does not count
+abbrev pub lane_of : ℕ → ℕ
+lane_of head = 4 * min (shift_of head) 13 + filter_of head
+
+-- floors do not depend on the box; a table holds them from each place on
+abbrev pub brr_rules : Rules
+brr_rules = record {
+  decoder = brr;
+  kind = Brr;
+  lane = λ head p. lane_of head;
+  is_box = λ p bx. is_brr_box bx;
+  whole = all_states;
+  floor = λ head p bx targets. brr_floor head p targets;
+  floor_len = 17;
+  floor_read = λ head p bx table. get_or table p 0;
+}

@@ -1,0 +1,25 @@
+//! The SNES's bit rate reduction: decoding and spelling of blocks, and the best block of filter 0.
+#![tactic(auto)]
+
+mod block;
+mod decode;
+mod filter;
+mod floors;
+mod machine;
+mod nearest;
+mod plain;
+mod sample;
+mod step;
+mod stored;
+mod zero;
+
+pub use block::{BrrBlock, read_block, spell_block};
+pub use decode::decode_block;
+pub use floors::{floors_fit, floors_hold};
+pub use machine::Brr;
+pub use step::{brr_forgets, brr_output};
+pub use stored::{code_at, flags_at, head_at};
+pub use zero::{encode_zero, zero_is_least};
+
+#[cfg(test)]
+mod tests;

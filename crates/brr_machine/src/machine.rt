@@ -1,0 +1,90 @@
+ghost use Rattle.brr_machine.specs.BrrRules.{brr_rules};
+ghost use Rattle.brr_machine.specs.Laws.{brr_is_machine};
+
+use crate::filter::predict;
+use crate::floors::fill_floors;
+use crate::nearest::{nearest_code, output_cost};
+use crate::step::brr_output;
+use adpcm_nums::Span;
+use machine_core::{Bx, HeadRule, Kind, Machine, State};
+
+/// The decoder of the SNES's bit rate reduction (fullsnes, BRR samples).
+///
+/// A head is four times the shift, plus the filter. A symbol is a 4-bit code. The states are the last two outputs, of 15 bits.
+#[derive(Clone, Copy, Debug, PartialEq, Eq)]
+pub struct Brr;
+
+/// All outputs.
+const OUTPUTS: Span = Span {
+    lo: -16384,
+    hi: 16383,
+};
+
+impl Machine for Brr {
+    ghost rules = { λ _. brr_rules };
+
+    fn kind(&self) -> Kind {
+        Kind::Brr
+    }
+
+    fn block_samples(&self) -> u32 {
+        16
+    }
+
+    fn heads(&self) -> u32 {
+        64
+    }
+
+    fn symbols(&self, _pos: u32) -> u32 {
+        16
+    }
+
+    fn allows(&self, head: u32, rule: HeadRule) -> bool {
+        match rule {
+            HeadRule::AnyHead => true,
+            HeadRule::FilterZero => head % 4 == 0,
+        }
+    }
+
+    // From shift 13 on the shift does not count.
+    fn lane(&self, head: u32, _pos: u32) -> u32 {
+        4 * (head / 4).min(13) + head % 4
+    }
+
+    #[tactic(auto, unfolding(crate::specs::Brr::brr_step))]
+    fn step(&self, head: u32, _pos: u32, sym: u32, from: State) -> State {
+        State {
+            a: brr_output(head, sym, from),
+            b: from.a,
+        }
+    }
+
+    fn cost(&self, at: State, target: i32) -> u64 {
+        output_cost(at.a, target)
+    }
+
+    fn nearest(&self, head: u32, _pos: u32, from: State, target: i32) -> u32 {
+        nearest_code(head / 4, predict(head % 4, from.a, from.b), target)
+    }
+
+    fn whole(&self) -> Bx {
+        Bx {
+            a: OUTPUTS,
+            b: OUTPUTS,
+        }
+    }
+
+    fn floor_len(&self) -> u32 {
+        17
+    }
+
+    fn fill_floor(&self, head: u32, targets: &[i32], table: &mut [u64]) {
+        fill_floors(head, targets, table);
+    }
+
+    fn floor_at(&self, _head: u32, pos: u32, _from: Bx, table: &[u64]) -> u64 {
+        table[pos as usize]
+    }
+
+    ghost lawful = { λ _. brr_is_machine };
+}

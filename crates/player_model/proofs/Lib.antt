@@ -1,0 +1,12 @@
+pub mod Walks
+pub mod Inside
+pub mod Rounds
+pub mod Same
+pub mod Keeping
+pub mod LoopIndex
+pub mod Standing
+pub mod Passes
+pub mod StoredBytes
+pub mod StoredKept
+pub mod StoredTrack
+pub mod StoredPlay

@@ -1,0 +1,66 @@
+use super::*;
+use std::test::Fail;
+
+/// Two blocks, the second of which repeats: codes 1 under shift 5, then zeros under filter 1.
+const FADING: [u8; 18] = [
+    0x50, 0x11, 0x11, 0x11, 0x11, 0x11, 0x11, 0x11, 0x11, 0x07, 0, 0, 0, 0, 0, 0, 0, 0,
+];
+
+#[test]
+fn plays_on_with_the_history(rt: HostRuntime) -> Result<(), Fail> {
+    let outputs = [
+        16, 16, 16, 16, 16, 16, 16, 16, 16, 16, 16, 16, 16, 16, 16, 16, 15, 14, 13, 12,
+    ];
+    let track = brr_track(&FADING, 0, 9).map_err(|_| "a track")?;
+    assert_eq!(rt; track.blocks(), 2);
+    assert_eq!(rt; track.loop_block(), Some(1));
+    assert_eq!(rt; track.bytes(), FADING.as_slice());
+    for (i, output) in outputs.iter().enumerate() {
+        assert_eq!(rt; play_brr_at(&track, i as u64), *output, "output {i}");
+    }
+    let mut player = BrrPlayer::new(track);
+    for (i, output) in outputs.iter().enumerate() {
+        assert!(rt; player.count() == i as u64);
+        assert_eq!(rt; player.next(), *output, "output {i}");
+    }
+    Ok(())
+}
+
+#[test]
+fn keeps_the_history_over_the_loop_jump(rt: HostRuntime) -> Result<(), Fail> {
+    let mut memory = FADING;
+    memory[0] = 0x60;
+    let track = brr_track(&memory, 0, 9).map_err(|_| "a track")?;
+    assert_eq!(rt; play_brr_at(&track, 31), 8);
+    assert_eq!(rt; play_brr_at(&track, 32), 7);
+    assert_eq!(rt; play_brr_at(&track, u64::MAX), 0);
+    Ok(())
+}
+
+#[test]
+fn repeats_or_falls_silent(rt: HostRuntime) -> Result<(), Fail> {
+    for (header, last) in [(0x53, 16), (0x51, 0)] {
+        let mut memory = FADING;
+        memory[0] = header;
+        let track = brr_track(&memory, 0, 0).map_err(|_| "a track")?;
+        assert_eq!(rt; play_brr_at(&track, 15), 16);
+        assert_eq!(rt; play_brr_at(&track, u64::MAX), last);
+    }
+    Ok(())
+}
+
+#[test]
+fn tells_why_there_is_no_track(rt: HostRuntime) {
+    assert_eq!(rt;
+        brr_track(&FADING[..9], 0, 0).err(),
+        Some(TrackFault::NoEnd { at: 9 })
+    );
+    assert_eq!(rt;
+        brr_track(&FADING, 12, 0).err(),
+        Some(TrackFault::NoEnd { at: 12 })
+    );
+    assert_eq!(rt;
+        brr_track(&FADING, 0, 8).err(),
+        Some(TrackFault::BadAgain { at: 8 })
+    );
+}

@@ -1,0 +1,9 @@
+pub mod LeastLaws
+pub mod Products
+pub mod MissLaws
+pub mod Inequality
+pub mod Equations
+pub mod Truth
+pub mod FloorIs
+pub mod Norms
+pub mod Sizes

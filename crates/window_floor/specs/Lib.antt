@@ -1,0 +1,7 @@
+pub mod Ranges
+pub mod LeastValue
+pub mod Row
+pub mod Numbers
+pub mod Miss
+pub mod Floor
+pub mod Outcome

@@ -1,0 +1,18 @@
+//! Floors under the error of a few places of a block that a filter ties together.
+//!
+//! A filter predicts a sample from the two outputs before it, up to rounding. So the errors of two or three places in a
+//! row keep a linear equation, and where the targets miss that equation by E the squared errors sum to at least
+//! `E² / (D² + A² + B²)`, unless the last output was clamped. This is plain algebra: the decoders come in only through
+//! the numbers of their filters.
+#![tactic(auto)]
+
+mod floor;
+mod miss;
+mod theorem;
+mod window;
+
+pub use floor::linear_floor;
+pub use theorem::{
+    miss_is_least, no_pair_is_cheaper, no_three_are_cheaper, rows_are_normed, three_products,
+};
+pub use window::Window;

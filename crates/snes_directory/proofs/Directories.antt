@@ -1,0 +1,60 @@
+-- A directory and its blocks, one sample after another.
+use Rattle.std.proofs.Common.{◌≡◌, ℕ, ◌+◌, ◌*◌, ◌<◌, ◌≤◌, List, [], ◌∷◌, ◌++◌, length, length-append, append_assoc, get_or, drop, refl, sym, ap, ◌∙◌, subst, arith}
+use Rattle.std.specs.Prelude.{All}
+use Rattle.std.specs.List.{sum_by, AllByRecursion}
+use Rattle.std.proofs.lemmas.List.{append-nil, drop_more}
+use Rattle.std.proofs.lemmas.List.Sums.{sum_by-cons}
+use Rattle.std.proofs.lemmas.List.Elements.{All-get_or, recursion_from_All}
+use Rattle.snes_directory.specs.declared.part.ImagePart.{ImagePart}
+use Rattle.snes_directory.specs.Part.{blocks_of, IsPart}
+use Rattle.snes_directory.specs.Spelling.{entry_bytes, directory_bytes, block_bytes, memory_bytes}
+
+-- the sample at place i, and those behind it
+pub drop-part : (parts : List ImagePart) (i : ℕ) (part : ImagePart) → i < length parts → part ≡ get_or parts i part → drop i parts ≡ part ∷ drop (i + 1) parts
+drop-part parts i part l is = drop_more parts i part l ∙ ap (λ (p : ImagePart). p ∷ drop (i + 1) parts) (sym is)
+
+pub part-at : (parts : List ImagePart) (i : ℕ) (part : ImagePart) → i < length parts → part ≡ get_or parts i part → All IsPart parts → IsPart part
+part-at parts i part l is all = subst IsPart (sym is) (All-get_or IsPart parts i part l all)
+
+-- one entry more was put
+pub directory_more : (out new all : List ℕ) (start : ℕ) (parts : List ImagePart) (i : ℕ) (part : ImagePart) → drop i parts ≡ part ∷ drop (i + 1) parts
+    → new ≡ out ++ entry_bytes start part → out ++ directory_bytes start (drop i parts) ≡ all → new ++ directory_bytes (start + length part.blocks) (drop (i + 1) parts) ≡ all
+unfolding directory_bytes
+directory_more out new all start parts i part next pushed so_far =
+    let rest = drop (i + 1) parts in
+    let step : directory_bytes start (drop i parts) ≡ entry_bytes start part ++ directory_bytes (start + length part.blocks) rest = ap (directory_bytes start) next in
+    ap (λ (xs : List ℕ). xs ++ directory_bytes (start + length part.blocks) rest) pushed
+    ∙ (append_assoc out (entry_bytes start part) (directory_bytes (start + length part.blocks) rest) ∙ (ap (λ (xs : List ℕ). out ++ xs) (sym step) ∙ so_far))
+
+pub directory_end : (out all : List ℕ) (start : ℕ) (parts : List ImagePart) (i : ℕ) → drop i parts ≡ [] → out ++ directory_bytes start (drop i parts) ≡ all → out ≡ all
+unfolding directory_bytes
+directory_end out all start parts i none so_far = sym (append-nil out) ∙ (sym (ap (λ (ps : List ImagePart). out ++ directory_bytes start ps) none) ∙ so_far)
+
+-- and its blocks leave room for the others
+pub room_more : (start : ℕ) (parts : List ImagePart) (i : ℕ) (part : ImagePart) → drop i parts ≡ part ∷ drop (i + 1) parts → start + length (block_bytes (drop i parts)) ≤ 65536
+    → start + length part.blocks + length (block_bytes (drop (i + 1) parts)) ≤ 65536
+room_more start parts i part next room =
+    let step : length (block_bytes (drop i parts)) ≡ length part.blocks + length (block_bytes (drop (i + 1) parts)) =
+    ap (λ (ps : List ImagePart). length (block_bytes ps)) next ∙ length-append part.blocks (block_bytes (drop (i + 1) parts)) in
+    omega (arith, step)
+
+pub room_part : (start : ℕ) (parts : List ImagePart) (i : ℕ) (part : ImagePart) → drop i parts ≡ part ∷ drop (i + 1) parts → start + length (block_bytes (drop i parts)) ≤ 65536
+    → start + length part.blocks ≤ 65536
+room_part start parts i part next room = omega (arith, room_more start parts i part next room)
+
+-- an entry has four bytes
+pub directory_bytes-length : (start : ℕ) (parts : List ImagePart) → length (directory_bytes start parts) ≡ 4 * length parts
+unfolding directory_bytes entry_bytes
+directory_bytes-length start [] = refl
+directory_bytes-length start (part ∷ parts) = omega (arith, directory_bytes-length (start + length part.blocks) parts)
+
+-- and a block nine
+pub block_bytes-length : (parts : List ImagePart) → AllByRecursion IsPart parts → length (block_bytes parts) ≡ 9 * sum_by blocks_of parts
+block_bytes-length [] all = refl
+block_bytes-length (part ∷ parts) all =
+    let p : IsPart part = all.0 in
+    omega (arith, length-append part.blocks (block_bytes parts), block_bytes-length parts all.1, sum_by-cons blocks_of part parts, p.whole)
+
+pub memory_bytes-length : (base : ℕ) (parts : List ImagePart) → All IsPart parts → length (memory_bytes base parts) ≡ 4 * length parts + 9 * sum_by blocks_of parts
+memory_bytes-length base parts all =
+    omega (arith, length-append (directory_bytes (base + 4 * length parts) parts) (block_bytes parts), directory_bytes-length (base + 4 * length parts) parts, block_bytes-length parts (recursion_from_All IsPart parts all))

@@ -1,0 +1,11 @@
+pub mod Addresses
+pub mod Tracks
+pub mod Parts
+pub mod Directories
+pub mod Entries
+pub mod Images
+pub mod HeaderAgain
+pub mod TrackAgain
+pub mod Splits
+pub mod EntryAgain
+pub mod ImageAgain

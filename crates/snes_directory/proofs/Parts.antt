@@ -1,0 +1,52 @@
+-- What a sample that may be written says of its blocks.
+use Rattle.std.proofs.Common.{◌≡◌, ℕ, suc, ◌+◌, ◌-◌, ◌*◌, ◌/◌, ◌%◌, ◌<◌, ◌≤◌, Bool, true, false, cond, ◌&&◌, length, Option, Some, None, refl, ap, ◌∙◌, arith}
+use Rattle.std.specs.Prelude.{IfSome, nat_lt, nat_le, nat_eq}
+use Rattle.std.proofs.lemmas.Bool.{and_parts, ltb-true}
+use Rattle.player_model.specs.Track.{Track, repeats_at, is_block}
+use Rattle.snes_directory.specs.declared.part.ImagePart.{ImagePart}
+use Rattle.snes_directory.specs.Part.{blocks_of, loop_address, track_in, IsPart}
+use Rattle.snes_directory.proofs.Tracks.{IsClosed, track_of-closed}
+
+pub part-closed : (part : ImagePart) → IsPart part → IsClosed part.blocks 0 (loop_address 0 part.loop_block) (track_in part)
+part-closed part p = track_of-closed part.blocks 0 (loop_address 0 part.loop_block) (track_in part) p.track
+
+-- its last block ends it
+pub last-is : (part : ImagePart) (p : IsPart part) → suc (part-closed part p).last ≡ blocks_of part
+last-is part p = ap (λ (t : Track). t.blocks) (part-closed part p).is
+
+pub some_blocks : (part : ImagePart) → IsPart part → 1 ≤ blocks_of part
+some_blocks part p = omega (arith, last-is part p)
+
+-- a choice of a block was made
+chosen : (b : Bool) (n l : ℕ) → cond b (Some n) None ≡ Some l → b ≡ true
+chosen true n l h = refl
+chosen false n l h = cc
+
+-- its loop block is one of its blocks
+loop_in : (part : ImagePart) (o : Option ℕ) → IsPart part → part.loop_block ≡ o → IfSome o (λ l. l < blocks_of part)
+loop_in part None p e = tt
+loop_in part (Some l) p e =
+    let closed = part-closed part p in
+    let again = loop_address 0 part.loop_block in
+    let repeats : repeats_at part.blocks 0 (blocks_of part - 1) ≡ true = chosen (repeats_at part.blocks 0 (blocks_of part - 1)) ((again - 0) / 9) l (p.loop_block ∙ e) in
+    let last : closed.last ≡ blocks_of part - 1 = omega (arith, last-is part p) in
+    let fits : is_block 0 (suc closed.last) again ≡ true = closed.again_fits (ap (repeats_at part.blocks 0) last ∙ repeats) in
+    let parts = and_parts (nat_le 0 again) (nat_eq ((again - 0) % 9) 0 && nat_lt ((again - 0) / 9) (suc closed.last)) fits in
+    let more = and_parts (nat_eq ((again - 0) % 9) 0) (nat_lt ((again - 0) / 9) (suc closed.last)) parts.1 in
+    let below : (again - 0) / 9 < suc closed.last = ltb-true _ _ more.1 in
+    let place : again ≡ 0 + 9 * l = ap (loop_address 0) e in
+    omega (arith, below, place, last-is part p)
+
+pub loop_block-within : (part : ImagePart) → IsPart part → IfSome part.loop_block (λ l. l < blocks_of part)
+loop_block-within part p = loop_in part part.loop_block p refl
+
+-- its addresses lie below the end of its blocks
+pub start_fits : (part : ImagePart) (at : ℕ) → IsPart part → at + length part.blocks ≤ 65536 → at < 65536
+start_fits part at p h = omega (arith, some_blocks part p, p.whole)
+
+again_below : (at blocks : ℕ) (o : Option ℕ) → 1 ≤ blocks → IfSome o (λ l. l < blocks) → loop_address at o < at + 9 * blocks
+again_below at blocks None some within = omega arith
+again_below at blocks (Some l) some within = omega arith
+
+pub again_fits : (part : ImagePart) (at : ℕ) → IsPart part → at + length part.blocks ≤ 65536 → loop_address at part.loop_block < 65536
+again_fits part at p h = omega (arith, again_below at (blocks_of part) part.loop_block (some_blocks part p) (loop_block-within part p), p.whole)

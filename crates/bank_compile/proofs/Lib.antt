@@ -1,0 +1,11 @@
+pub mod NearLaws
+pub mod BestLaws
+pub mod BeamLaws
+pub mod LegalLaws
+pub mod Growth
+pub mod OutputLaws
+pub mod OutLaws
+pub mod SoundLaws
+pub mod Spelled
+pub mod Replaying
+pub mod FittedLaws

@@ -1,0 +1,6 @@
+-- The blocks of a choice.
+use Rattle.machine_core.specs.declared.choice.Choice.{Choice}
+use Rattle.machine_core.specs.Blocks.{Blocks}
+
+abbrev pub list_of : Choice → Blocks
+list_of choice = record { heads = choice.heads; symbols = choice.symbols }

@@ -1,0 +1,20 @@
+ghost use Rattle.std.specs.Prelude.{◌≡◌, ℤ, List, Option, Ok};
+ghost use Rattle.adpcm_nums.specs.declared.loop_at.LoopAt.{LoopAt};
+ghost use Rattle.machine_core.specs.declared.state.Kind.TheVariants.{Brr};
+ghost use Rattle.loop_fit.specs.declared.rule.FitRule.{FitRule};
+ghost use Rattle.loop_fit.specs.declared.fitted.Fitted.{Fitted};
+ghost use Rattle.loop_fit.specs.Source.{IsSource};
+ghost use Rattle.loop_fit.specs.Fit.{fit_of};
+ghost use Rattle.bank_compile.specs.Sample.{IsBrrFit, bound_of};
+ghost use Rattle.bank_compile.specs.Bound.{IsBound};
+
+/// A sound that a rule for BRR has fitted can be compiled.
+pub fn fit_is_brr()
+    ensures { (samples : List ℤ) (at : Option LoopAt) (rule : FitRule) (fitted : Fitted)
+        → IsSource samples at rule → rule.kind ≡ Brr → fit_of samples at rule ≡ Ok fitted → IsBrrFit fitted }
+{}
+
+/// The bound that is told of a fitted sound is at most the error of every list of blocks that may be stored for it.
+pub fn bound_holds()
+    ensures { (fitted : Fitted) → IsBrrFit fitted → IsBound fitted (bound_of fitted) }
+{}

@@ -1,0 +1,90 @@
+-- The sources of a bank and its files, over plain variables.
+use Rattle.std.proofs.Common.{◌≡◌, ℕ, zero, suc, ◌≤◌, List, [], ◌∷◌, ◌++◌, length, map, Bool, refl, sym, ap, subst, ◌∙◌, arith, Some, Result, Ok, Err, nat_lt, slice_get, inl, inr}
+use Rattle.std.specs.List.{AllZip}
+use Rattle.std.specs.Result.{IfOk}
+use Rattle.std.proofs.lemmas.Option.{slice_get_within}
+use Rattle.adpcm_nums.specs.Outcome.{Gives, ◌>>=◌}
+use Rattle.host_files.specs.Outside.{World, Files}
+use Rattle.host_files.specs.declared.named_file.NamedFile.{NamedFile}
+use Rattle.machine_core.specs.declared.state.Kind.{Kind}
+use Rattle.manifest_reader.specs.declared.manifest.SampleEntry.{SampleEntry}
+use Rattle.manifest_reader.specs.Meaning.{Content}
+use Rattle.manifest_reader.specs.Stored.{first_pass_of}
+use Rattle.snes_directory.specs.declared.fault.LayFault.{LayFault}
+use Rattle.bank_compile.specs.declared.sample.SampleOut.{SampleOut}
+use Rattle.bank_compile.specs.Bank.{bank_of, image_of, bank_files, first_file}
+use Rattle.command_plan.specs.declared.status.Status.{Status}
+use Rattle.command_plan.specs.declared.status.Status.TheVariants.{Full, Memory}
+use Rattle.command_plan.specs.Plan.{names_in}
+use Rattle.command_plan.specs.Reading.{Reading, then_read, decided, read_each, status_of, Declines}
+use Rattle.command_plan.specs.Steps.{HasRead, Halts, ReadsTo}
+use Rattle.command_plan.proofs.Readings.{halts_first, halts_next, reads_next, halts_after}
+use Rattle.command_plan.proofs.Tests.{decides, decides_not}
+use Rattle.bank_tool.specs.declared.source.Source.{Source}
+use Rattle.bank_tool.specs.Source.{rule_of}
+use Rattle.bank_tool.specs.Compile.{each_of, source_in, source_reading, sources_in, sources_reading, bank_end, with_room, bank_names, IsMadeOf}
+use Rattle.bank_tool.proofs.SourceSteps.{test-declines}
+
+-- after a reading, a test of what was read
+pub tested_after : {X T : Type 0} (c : Reading) (view : X → T) (r : Result X Status) (read : Result T Status) (x : X) (P : X → Type 0) (a b : World) → HasRead c a b → Declines read → Gives Memory view r read → IfOk r (λ v. v ≡ x) → P x → ReadsTo (then_read c (decided (status_of read))) a b r P
+tested_after c view (Ok v) read x P a b h d g same p = (reads_next c (decided (status_of read)) a b b h (decides (status_of read) b (ap status_of g)), subst P (sym same) p)
+tested_after c view (Err s) read x P a b h d g same p = elim g as (λ _. Halts (then_read c (decided (status_of read))) a b s) [
+  | inl e ↦ subst (λ (t : Status). Halts (then_read c (decided (status_of read))) a b t) (sym e) (halts_first c (decided (status_of read)) a b Memory (halts_after c a b h))
+  | inr e ↦ halts_next c (decided (status_of read)) a b b s h (decides_not (status_of read) s s b (subst Declines e d) (ap status_of e) (inr refl))
+]
+
+room-declines : (bank : List ℕ) (base : ℕ) (sources : List Source) → Declines (with_room bank base sources)
+unfolding with_room
+room-declines bank base sources = test-declines (nat_lt 65536 (bank_end base sources)) (Err (Full bank (bank_end base sources))) (Ok sources) refl tt
+
+-- one of the sources was refused
+pub sources_refused : (files : Files) (m : Content) (entries : List SampleEntry) (a b : World) (s : Status) → entries ≡ m.samples → Halts (read_each (source_reading files (rule_of m)) entries) a b s → Halts (sources_reading files m) a b s
+sources_refused files m entries a b s e h =
+    halts_first (read_each (source_reading files (rule_of m)) m.samples) (decided (status_of (sources_in files m >>= with_room m.bank m.base))) a b s
+    (subst (λ (es : List SampleEntry). Halts (read_each (source_reading files (rule_of m)) es) a b s) e h)
+
+-- all were read, and there is room for them or not
+pub sources_tested : {V : Type 0} (items : V → List Source) (files : Files) (m : Content) (entries : List SampleEntry) (bank : List ℕ) (v : V) (r : Result V Status) (a b : World) → entries ≡ m.samples → bank ≡ m.bank → HasRead (read_each (source_reading files (rule_of m)) entries) a b → each_of (source_in files (rule_of m)) entries ≡ Ok (items v) → IfOk r (λ w. w ≡ v) → Gives Memory items r (with_room bank m.base (items v)) → ReadsTo (sources_reading files m) a b r (λ w. sources_in files m ≡ Ok (items w))
+sources_tested items files m entries bank v r a b e n h each same g =
+    let read = subst (λ (es : List SampleEntry). HasRead (read_each (source_reading files (rule_of m)) es) a b) e h in
+    let all : sources_in files m ≡ Ok (items v) = ap (each_of (source_in files (rule_of m))) (sym e) ∙ each in
+    let room = subst (λ (x : List ℕ). Gives Memory items r (with_room x m.base (items v))) n g in
+    subst (λ (x : Result (List Source) Status). ReadsTo (then_read (read_each (source_reading files (rule_of m)) m.samples) (decided (status_of (x >>= with_room m.bank m.base)))) a b r (λ w. sources_in files m ≡ Ok (items w))) (sym all)
+    (tested_after (read_each (source_reading files (rule_of m)) m.samples) items r (with_room m.bank m.base (items v)) v (λ w. sources_in files m ≡ Ok (items w)) a b read (room-declines m.bank m.base (items v)) room same all)
+
+-- what stands at one place of both lists
+pub zip_at : {X Y : Type 0} (R : X → Y → Type 0) (xs : List X) (ys : List Y) (j : ℕ) (x : X) (y : Y) → AllZip R xs ys → slice_get xs j ≡ Some x → slice_get ys j ≡ Some y → R x y
+zip_at R [] ys j x y h p q = let w = slice_get_within [] j x p in let no : ⊥ = omega arith in absurd no
+zip_at R (a ∷ xs) [] j x y h p q = absurd h
+zip_at R (a ∷ xs) (b ∷ ys) zero x y h p q = let one : a ≡ x = cc in let two : b ≡ y = cc in subst (λ z. R z y) one (subst (λ z. R a z) two h.0)
+zip_at R (a ∷ xs) (b ∷ ys) (suc j) x y h p q = zip_at R xs ys j x y h.1 p q
+
+first-names : (bank : List ℕ) (outs : List SampleOut) → names_in (map (first_file bank) outs) ≡ map (λ (o : SampleOut). first_pass_of bank o.name) outs
+first-names bank [] = refl
+first-names bank (o ∷ outs) = ap (λ ns. first_pass_of bank o.name ∷ ns) (first-names bank outs)
+
+files-names : (bank : List ℕ) (r : Result (List ℕ) LayFault) (outs : List SampleOut) (files : List NamedFile) → (r >>= λ image. Ok (bank_files bank image outs)) ≡ Ok files → names_in files ≡ bank ∷ map (λ (o : SampleOut). first_pass_of bank o.name) outs
+files-names bank (Ok image) outs files e = let same : files ≡ bank_files bank image outs = cc in ap names_in same ∙ ap (λ ns. bank ∷ ns) (first-names bank outs)
+files-names bank (Err f) outs files e = cc
+
+made-names : (kind : Kind) (bank : List ℕ) (sources : List Source) (outs : List SampleOut) → AllZip (IsMadeOf kind) sources outs → map (λ (o : SampleOut). first_pass_of bank o.name) outs ≡ map (λ (s : Source). first_pass_of bank s.name) sources
+made-names kind bank [] [] h = refl
+made-names kind bank [] (o ∷ outs) h = absurd h
+made-names kind bank (s ∷ sources) [] h = absurd h
+made-names kind bank (s ∷ sources) (o ∷ outs) h =
+    ap (λ (x : SampleOut). first_pass_of bank x.name ∷ map (λ (o : SampleOut). first_pass_of bank o.name) outs) h.0.made
+    ∙ ap (λ ns. first_pass_of bank s.name ∷ ns) (made-names kind bank sources outs h.1)
+
+map_map : {X Y Z : Type 0} (f : Y → Z) (g : X → Y) (xs : List X) → map f (map g xs) ≡ map (λ x. f (g x)) xs
+map_map f g [] = refl
+map_map f g (x ∷ xs) = ap (λ zs. f (g x) ∷ zs) (map_map f g xs)
+
+-- the files of a bank have the names of its samples
+pub names_stored : (m : Content) (sources : List Source) (outs : List SampleOut) (writes : List NamedFile) → map (λ (s : Source). s.name) sources ≡ map (λ (e : SampleEntry). e.name) m.samples → AllZip (IsMadeOf m.kind) sources outs → bank_of m.bank m.base outs ≡ Ok writes → names_in writes ≡ bank_names m
+unfolding bank_of
+names_stored m sources outs writes named made files =
+    files-names m.bank (image_of m.base outs) outs writes files
+    ∙ ap (λ ns. m.bank ∷ ns) (made-names m.kind m.bank sources outs made
+    ∙ sym (map_map (first_pass_of m.bank) (λ (s : Source). s.name) sources)
+    ∙ ap (map (first_pass_of m.bank)) named
+    ∙ map_map (first_pass_of m.bank) (λ (e : SampleEntry). e.name) m.samples)

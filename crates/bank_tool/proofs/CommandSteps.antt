@@ -1,0 +1,63 @@
+-- The cases of a command, over plain variables.
+use Rattle.std.proofs.Common.{◌≡◌, ◌∙◌, List, ℕ, map, true, false, sym, subst, Option, Some, None, refl, String, Global, string_bytes}
+use Rattle.std.specs.List.{list_all}
+use Rattle.std.proofs.lemmas.Bool.{cond-true, cond-false}
+use Rattle.std.proofs.lemmas.List.Folds.{list_all-map}
+use Rattle.host_files.specs.Outside.{World, Files}
+use Rattle.command_plan.specs.declared.status.Status.{Status}
+use Rattle.command_plan.specs.declared.status.Status.TheVariants.{Words}
+use Rattle.command_plan.specs.Ending.{has_line, ending_of}
+use Rattle.command_plan.specs.Steps.{Told}
+use Rattle.command_plan.specs.Promise.{Promises}
+use Rattle.command_plan.proofs.Promised.{refused_at_once}
+use Rattle.bank_tool.specs.declared.words.Command.{Command}
+use Rattle.bank_tool.specs.declared.words.Command.TheVariants.{Block, Compile, Play}
+use Rattle.machine_core.specs.declared.state.Kind.{Kind}
+use Rattle.bank_tool.specs.Block.{block_course, targets_in, IsBlock, AnswersBlock}
+use Rattle.bank_tool.specs.Play.{play_course, said_in, IsPlayed, AnswersPlay}
+use Rattle.bank_tool.proofs.PlaySteps.{answers_play}
+use Rattle.bank_tool.proofs.BlockSteps.{answers_block}
+use Rattle.bank_tool.specs.Words.{is_word, command_in, command_of}
+use Rattle.bank_tool.specs.Compile.{compile_course, compile_choice}
+use Rattle.bank_tool.specs.Commands.{course_of, choice_of}
+
+-- words that are no command, and the line that says so
+pub no_command : (o : Option Command) (files : Files) (a d : World) (r : Status) → o ≡ None → Told (has_line (ending_of Words)) Words a d r → Promises (course_of o files) (choice_of o files) a d r
+no_command o files a d r e told =
+    subst (λ (x : Option Command). Promises (course_of x files) (choice_of x files) a d r) (sym e) (refused_at_once (choice_of None files) a d Words r refl told)
+
+-- words that may all stand in a command, and words that may not
+pub command_is : (words : List (String Global)) → list_all (λ word. is_word (string_bytes word)) words ≡ true → command_of (map string_bytes words) ≡ command_in (map string_bytes words)
+command_is words h = cond-true _ _ _ (list_all-map is_word string_bytes words ∙ h)
+
+pub command_is_not : (words : List (String Global)) → list_all (λ word. is_word (string_bytes word)) words ≡ false → command_of (map string_bytes words) ≡ None
+command_is_not words h = cond-false _ _ _ (list_all-map is_word string_bytes words ∙ h)
+
+-- words that are `block`
+pub block_answers : (o : Option Command) (files : Files) (input output : List ℕ) (a b : World) (r : Status) → o ≡ Some (Block input output) → Promises (course_of o files) (choice_of o files) a b r → AnswersBlock files input output a b r
+block_answers o files input output a b r e h =
+    answers_block files input output a b r (subst (λ (x : Option Command). Promises (course_of x files) (choice_of x files) a b r) e h)
+
+-- words that are `play`
+pub play_answers : (o : Option Command) (files : Files) (kind : Kind) (file : List ℕ) (entry count : ℕ) (a b : World) (r : Status) → o ≡ Some (Play kind file entry count) → Promises (course_of o files) (choice_of o files) a b r → AnswersPlay files file entry count a b r
+play_answers o files kind file entry count a b r e h =
+    answers_play files file entry count a b r (subst (λ (x : Option Command). Promises (course_of x files) (choice_of x files) a b r) e h)
+
+-- a command that is `block`
+pub block_obeys : (command : Command) (files : Files) (x y input output : List ℕ) (a b : World) (r : Status) → command ≡ Block x y → input ≡ x → output ≡ y → Promises (block_course files input output) (IsBlock (targets_in files input) output) a b r → Promises (course_of (Some command) files) (choice_of (Some command) files) a b r
+block_obeys command files x y input output a b r is i o h =
+    subst (λ (m : Command). Promises (course_of (Some m) files) (choice_of (Some m) files) a b r) (sym is)
+    (subst (λ (n : List ℕ). Promises (block_course files x n) (IsBlock (targets_in files x) n) a b r) o
+    (subst (λ (n : List ℕ). Promises (block_course files n output) (IsBlock (targets_in files n) output) a b r) i h))
+
+-- a command that is `play`
+pub play_obeys : (command : Command) (files : Files) (kind : Kind) (x file : List ℕ) (entry count : ℕ) (a b : World) (r : Status) → command ≡ Play kind x entry count → file ≡ x → Promises (play_course files file entry count) (IsPlayed (said_in files file entry count)) a b r → Promises (course_of (Some command) files) (choice_of (Some command) files) a b r
+play_obeys command files kind x file entry count a b r is f h =
+    subst (λ (m : Command). Promises (course_of (Some m) files) (choice_of (Some m) files) a b r) (sym is)
+    (subst (λ (n : List ℕ). Promises (play_course files n entry count) (IsPlayed (said_in files n entry count)) a b r) f h)
+
+-- a command that is `compile`
+pub compile_obeys : (command : Command) (files : Files) (x manifest : List ℕ) (a b : World) (r : Status) → command ≡ Compile x → manifest ≡ x → Promises (compile_course files manifest) (compile_choice files manifest) a b r → Promises (course_of (Some command) files) (choice_of (Some command) files) a b r
+compile_obeys command files x manifest a b r is m h =
+    subst (λ (k : Command). Promises (course_of (Some k) files) (choice_of (Some k) files) a b r) (sym is)
+    (subst (λ (n : List ℕ). Promises (compile_course files n) (compile_choice files n) a b r) m h)

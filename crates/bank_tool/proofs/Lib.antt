@@ -1,0 +1,10 @@
+pub mod ReadSamples
+pub mod ZeroBlock
+pub mod BlockSteps
+pub mod NumberSteps
+pub mod PlaySteps
+pub mod PlayWordSteps
+pub mod CommandSteps
+pub mod SourceSteps
+pub mod BankSteps
+pub mod CompileSteps

@@ -1,0 +1,149 @@
+-- The readings of a manifest and of a source, over plain variables.
+use Rattle.std.proofs.Common.{◌≡◌, ℕ, ◌+◌, ◌≤◌, List, [], ◌∷◌, ◌++◌, length, take, Bool, true, false, cond, refl, sym, ap, subst, ◌∙◌, map, All, arith, ℤ, Option, Some, None, Result, Ok, Err, nat_lt, slice_get}
+use Rattle.std.specs.List.{AllZip}
+use Rattle.std.specs.Option.{IfSome}
+use Rattle.std.proofs.lemmas.Grind.{common_steps}
+use Rattle.adpcm_nums.specs.Outcome.{Gives, ◌>>=◌}
+use Rattle.adpcm_nums.specs.Sample.{AreSamples}
+use Rattle.adpcm_nums.specs.declared.loop_at.LoopAt.{LoopAt}
+use Rattle.host_files.specs.Outside.{World, Files, content_of}
+use Rattle.machine_core.specs.declared.state.Kind.{Kind}
+use Rattle.machine_core.specs.declared.state.Kind.TheVariants.{Brr, Spu, Ima}
+use Rattle.loop_fit.specs.declared.rule.FitRule.{FitRule}
+use Rattle.loop_fit.specs.Source.{IsLoopIn, IsBlockOf, IsSource}
+use Rattle.loop_fit.specs.Fit.{fit_of}
+use Rattle.manifest_reader.specs.declared.manifest.SampleEntry.{SampleEntry}
+use Rattle.manifest_reader.specs.Meaning.{Content, manifest_of}
+use Rattle.wave_form.specs.declared.wave.Wave.{Wave}
+use Rattle.wave_form.specs.Reading.{read_of}
+use Rattle.smpl_loops.specs.Loops.{first_loop_of}
+use Rattle.command_plan.specs.declared.status.Status.{Status}
+use Rattle.command_plan.specs.declared.status.Status.TheVariants.{Manifest, Input, Unfit, Memory}
+use Rattle.command_plan.specs.declared.input_fault.InputFault.TheVariants.{Wave as WaveInput, Loop, FileLong}
+use Rattle.command_plan.specs.Ending.{Declined, ending_of}
+use Rattle.command_plan.specs.Reading.{fetched, tested_reading, Declines}
+use Rattle.command_plan.specs.Steps.{HasRead, ReadsTo}
+use Rattle.command_plan.proofs.Tested.{tested_done, tested_refused}
+use Rattle.command_plan.proofs.ReadEach.{map_more}
+use Rattle.command_plan.proofs.Fronts.{take-next}
+use Rattle.bank_tool.specs.Compile.{each_of}
+use Rattle.bank_tool.specs.Source.{front_in, or_told, if_brr, brr_alone, manifest_in, sound_in, loop_in, fit_in, source_of}
+
+-- a fault that is told is a refusal
+told-declines : {X E : Type 0} (tell : E → Status) (r : Result X E) → ((e : E) → ending_of (tell e) ≡ Declined) → Declines (or_told tell r)
+told-declines tell (Ok x) d = tt
+told-declines tell (Err e) d = d e
+
+-- one reading after another
+then-declines : {X Y : Type 0} (r : Result X Status) (f : X → Result Y Status) → Declines r → ((x : X) → Declines (f x)) → Declines (r >>= f)
+then-declines (Ok x) f d k = k x
+then-declines (Err s) f d k = d
+
+-- a test between two readings
+pub test-declines : {X : Type 0} (b : Bool) (r q : Result X Status) → Declines r → Declines q → Declines (cond b r q)
+test-declines true r q d k = d
+test-declines false r q d k = k
+
+brr-declines : (k : Kind) (m : Content) → Declines (if_brr k m)
+brr-declines Brr m = tt
+brr-declines Spu m = refl
+brr-declines Ima m = refl
+
+-- a manifest is refused or read
+pub manifest-declines : (own bytes : List ℕ) → Declines (manifest_in own bytes)
+unfolding manifest_in
+manifest-declines own bytes =
+    then-declines (or_told (λ f. Manifest f) (manifest_of bytes own)) brr_alone (told-declines (λ f. Manifest f) (manifest_of bytes own) (λ f. refl)) (λ m. brr-declines m.kind m)
+
+sound-declines : (entry : SampleEntry) (bytes : List ℕ) → Declines (sound_in entry bytes)
+unfolding sound_in
+sound-declines entry bytes =
+    test-declines (nat_lt 4194304 (length bytes)) (Err (Input entry.name (FileLong 4194304))) _ refl (told-declines (λ f. Input entry.name (WaveInput f)) (read_of bytes entry.channel) (λ f. refl))
+
+loop-declines : (entry : SampleEntry) (wave : Wave) → Declines (loop_in entry wave)
+unfolding loop_in
+loop-declines entry wave =
+    test-declines entry.looped _ (Ok None) (told-declines (λ f. Input entry.name (Loop f)) (first_loop_of wave.sampler (length wave.samples)) (λ f. refl)) tt
+
+fit-declines : (rule : FitRule) (entry : SampleEntry) (wave : Wave) (at : Option LoopAt) → Declines (fit_in rule entry wave at)
+unfolding fit_in
+fit-declines rule entry wave at = told-declines (λ f. Unfit entry.name f) (fit_of wave.samples at rule) (λ f. refl)
+
+-- a source is refused or read
+pub source-declines : (rule : FitRule) (entry : SampleEntry) (bytes : List ℕ) → Declines (source_of rule entry bytes)
+unfolding source_of
+source-declines rule entry bytes =
+    then-declines (sound_in entry bytes) _ (sound-declines entry bytes)
+    (λ wave. then-declines (loop_in entry wave) _ (loop-declines entry wave)
+    (λ at. then-declines (fit_in rule entry wave at) _ (fit-declines rule entry wave at) (λ fitted. tt)))
+
+-- a file was fetched, and a reading of its front decides
+pub tested : {T X : Type 0} (name : List ℕ) (view : X → T) (r : Result X Status) (read : Result T Status) (a b : World) → HasRead (fetched name) a b → Declines read → Gives Memory view r read → ReadsTo (tested_reading name read) a b r (λ v. read ≡ Ok (view v))
+tested name view (Ok x) read a b h d g = (tested_done name read (view x) a b h g, g)
+tested name view (Err s) read a b h d g = tested_refused name read s a b h d g
+
+-- a sound that was read can be fitted to blocks of BRR
+pub is_source : (held samples : List ℤ) (at : Option LoopAt) (rule : FitRule) → samples ≡ held → length held ≤ 4194304 → AreSamples held → IfSome at (IsLoopIn (length held)) → rule.kind ≡ Brr → rule.block ≡ 16 → IsSource samples at rule
+is_source held samples at rule same count range inside kind block = subst (λ (xs : List ℤ). IsSource xs at rule) (sym same) (record {
+  count = omega arith;
+  range = range;
+  loop = inside;
+  block = subst (λ (k : Kind). IsBlockOf k rule.block) (sym kind) block;
+})
+
+-- values that were read one by one
+pub each_zip : {X Y E : Type 0} (f : X → Result Y E) (xs : List X) (ys : List Y) → AllZip (λ x y. f x ≡ Ok y) xs ys → each_of f xs ≡ Ok ys
+unfolding each_of
+each_zip f [] [] h = refl
+each_zip f [] (y ∷ ys) h = absurd h
+each_zip f (x ∷ xs) [] h = absurd h
+each_zip f (x ∷ xs) (y ∷ ys) h = rw h.0 (rw (each_zip f xs ys h.1) refl)
+
+-- none yet
+pub zip_none : {X Y : Type 0} (R : X → Y → Type 0) (ys : List Y) → ys ≡ [] → AllZip R [] ys
+zip_none {X = X} {Y = Y} R ys e = subst (λ (zs : List Y). AllZip R [] zs) (sym e) tt
+
+-- one more on both sides
+pub zip_push : {X Y : Type 0} (R : X → Y → Type 0) (xs : List X) (ys : List Y) (x : X) (y : Y) → AllZip R xs ys → R x y → AllZip R (xs ++ x ∷ []) (ys ++ y ∷ [])
+zip_push R [] [] x y h one = (one, tt)
+zip_push R [] (b ∷ ys) x y h one = absurd h
+zip_push R (a ∷ xs) [] x y h one = absurd h
+zip_push R (a ∷ xs) (b ∷ ys) x y h one = (h.0, zip_push R xs ys x y h.1 one)
+
+-- one more, which stands at place k
+pub zip_more : {X Y : Type 0} (R : X → Y → Type 0) (xs : List X) (ys more : List Y) (k : ℕ) (x : X) (y : Y) → slice_get xs k ≡ Some x → more ≡ ys ++ y ∷ [] → AllZip R (take k xs) ys → R x y → AllZip R (take (k + 1) xs) more
+zip_more {X = X} {Y = Y} R xs ys more k x y at e h one =
+    subst (λ (zs : List X). AllZip R zs more) (sym (take-next xs k x at))
+    (subst (λ (zs : List Y). AllZip R (take k xs ++ x ∷ []) zs) (sym e) (zip_push R (take k xs) ys x y h one))
+
+-- one more, counted
+pub count_more : {Y : Type 0} (ys more : List Y) (k : ℕ) (y : Y) → more ≡ ys ++ y ∷ [] → length ys ≡ k → length more ≡ k + 1
+count_more ys more k y e n = grind (arith, common_steps)
+
+map_push : {Y Z : Type 0} (f : Y → Z) (ys : List Y) (y : Y) → map f (ys ++ y ∷ []) ≡ map f ys ++ f y ∷ []
+map_push f [] y = refl
+map_push f (z ∷ ys) y = ap (λ zs. f z ∷ zs) (map_push f ys y)
+
+-- one more, seen alike in both lists
+pub alike_more : {X Y Z : Type 0} (f : Y → Z) (g : X → Z) (xs : List X) (ys more : List Y) (k : ℕ) (x : X) (y : Y) → slice_get xs k ≡ Some x → more ≡ ys ++ y ∷ [] → map f ys ≡ map g (take k xs) → f y ≡ g x → map f more ≡ map g (take (k + 1) xs)
+alike_more f g xs ys more k x y at e h one = ap (map f) e ∙ map_push f ys y ∙ map_more g xs k x (map f ys) (f y) at h one
+
+-- the bytes that were fetched
+pub is_front : (files : Files) (name bytes : List ℕ) (most : ℕ) → bytes ≡ take (most + 1) (content_of files name) → bytes ≡ front_in files name most
+unfolding front_in
+is_front files name bytes most e = e
+
+-- lists that stand place by place are of one length
+pub zip_length : {X Y : Type 0} (R : X → Y → Type 0) (xs : List X) (ys : List Y) → AllZip R xs ys → length ys ≡ length xs
+zip_length R [] [] h = refl
+zip_length R [] (y ∷ ys) h = absurd h
+zip_length R (x ∷ xs) [] h = absurd h
+zip_length R (x ∷ xs) (y ∷ ys) h = let n = zip_length R xs ys h.1 in omega (arith, n)
+
+pub map_same : {X : Type 0} (xs : List X) → xs ≡ map (λ x. x) xs
+map_same [] = refl
+map_same (x ∷ xs) = ap (λ ys. x ∷ ys) (map_same xs)
+
+-- nothing fails of no element
+pub all_none : {X : Type 0} (P : X → Type 0) (xs : List X) → xs ≡ [] → All P xs
+all_none P xs e = λ k d h. absurd (omega (arith, h, ap length e))

@@ -1,0 +1,17 @@
+use Rattle.bank_tool.proofs.CommandSteps.{block_obeys, compile_obeys, play_obeys}
+use Rattle.bank_tool.proofs.top.obey.Goals as goal
+
+pub returns-in-Block-clause-told : goal.returns-in-Block-clause-told
+returns-in-Block-clause-told g c = λ files told.
+    block_obeys c.args.command.now files c.in-Block.input c.in-Block.output c.as_str.result.now c.as_str-in-Block.result.now
+    (g.H.Host.world c.args.host.now) (g.H.Host.world c.run_block.new.host) c.run_block.result c.in-Block.is c.as_str.ensures c.as_str-in-Block.ensures (c.run_block.ensures.told files told)
+
+pub returns-in-Compile-clause-told : goal.returns-in-Compile-clause-told
+returns-in-Compile-clause-told g c = λ files told.
+    compile_obeys c.args.command.now files c.in-Compile.manifest c.as_str-in-Compile.result.now
+    (g.H.Host.world c.args.host.now) (g.H.Host.world c.run_compile.new.host) c.run_compile.result c.in-Compile.is c.as_str-in-Compile.ensures (c.run_compile.ensures.told files told)
+
+pub returns-in-Play-clause-told : goal.returns-in-Play-clause-told
+returns-in-Play-clause-told g c = λ files told.
+    play_obeys c.args.command.now files c.in-Play.kind c.in-Play.file c.as_str-in-Play.result.now c.in-Play.entry c.in-Play.count
+    (g.H.Host.world c.args.host.now) (g.H.Host.world c.run_play.new.host) c.run_play.result c.in-Play.is c.as_str-in-Play.ensures (c.run_play.ensures.told files told)

@@ -1,0 +1,25 @@
+-- What each command promises: one case for each in both definitions, and one for words that are no command.
+use Rattle.std.specs.Prelude.{Option, Some, None}
+use Rattle.host_files.specs.Outside.{Files}
+use Rattle.command_plan.specs.declared.status.Status.TheVariants.{Words}
+use Rattle.command_plan.specs.Reading.{Reading, decided}
+use Rattle.command_plan.specs.Promise.{Choice}
+use Rattle.bank_tool.specs.declared.words.Command.{Command}
+use Rattle.bank_tool.specs.declared.words.Command.TheVariants.{Block, Compile, Play}
+use Rattle.bank_tool.specs.Block.{block_course, targets_in, IsBlock}
+use Rattle.bank_tool.specs.Compile.{compile_course, compile_choice}
+use Rattle.bank_tool.specs.Play.{play_course, said_in, IsPlayed}
+
+-- the calls of the host in order, and how it ends
+abbrev pub course_of : Option Command → Files → Reading
+course_of None files = decided Words
+course_of (Some (Block input output)) files = block_course files input output
+course_of (Some (Compile manifest)) files = compile_course files manifest
+course_of (Some (Play kind file entry count)) files = play_course files file entry count
+
+-- the files that may be stored, and the line that may be said
+abbrev pub choice_of : Option Command → Files → Choice
+choice_of None files = λ writes line. ⊥
+choice_of (Some (Block input output)) files = IsBlock (targets_in files input) output
+choice_of (Some (Compile manifest)) files = compile_choice files manifest
+choice_of (Some (Play kind file entry count)) files = IsPlayed (said_in files file entry count)

@@ -1,0 +1,105 @@
+-- The command `compile`: the files that a manifest names become the files of a bank.
+use Rattle.std.specs.Prelude.{◌≡◌, ℕ, suc, ◌+◌, ◌*◌, nat_lt, if◌then◌else◌, List, [], ◌∷◌, length, map, Some, slice_get, Result, Ok, Err}
+use Rattle.std.specs.List.{AllZip, sum_by}
+use Rattle.adpcm_nums.specs.Outcome.{◌>>=◌}
+use Rattle.host_files.specs.Outside.{Files}
+use Rattle.host_files.specs.declared.named_file.NamedFile.{NamedFile}
+use Rattle.machine_core.specs.declared.state.Kind.{Kind}
+use Rattle.loop_fit.specs.declared.rule.FitRule.{FitRule}
+use Rattle.manifest_reader.specs.declared.manifest.SampleEntry.{SampleEntry}
+use Rattle.manifest_reader.specs.Meaning.{Content}
+use Rattle.manifest_reader.specs.Stored.{first_pass_of}
+use Rattle.bank_compile.specs.declared.sample.SampleOut.{SampleOut}
+use Rattle.bank_compile.specs.Sample.{IsCompiled}
+use Rattle.bank_compile.specs.Bank.{bank_of}
+use Rattle.bank_compile.specs.Told.{report_text}
+use Rattle.bank_compile.specs.Replay.{Replays}
+use Rattle.command_plan.specs.declared.status.Status.{Status}
+use Rattle.command_plan.specs.declared.status.Status.TheVariants.{Full}
+use Rattle.command_plan.specs.Reading.{Reading, nothing_read, then_read, decided, read_each, writing_course, status_of, tested_reading}
+use Rattle.command_plan.specs.Promise.{Choice}
+use Rattle.bank_tool.specs.declared.source.Source.{Source}
+use Rattle.bank_tool.specs.Source.{front_in, manifest_in, rule_of, source_of}
+
+-- a value for each element, or the first refusal
+unfoldable pub each_of : {X Y E : Type 0} → (X → Result Y E) → List X → Result (List Y) E
+each_of f [] = Ok []
+each_of f (x ∷ xs) = do
+  y ← f x
+  ys ← each_of f xs
+  Ok (y ∷ ys)
+
+-- what the manifest of this name says
+abbrev pub meaning_in : Files → List ℕ → Result Content Status
+meaning_in files manifest = manifest_in manifest (front_in files manifest 65536)
+
+-- what a sample's file comes to
+abbrev pub source_in : Files → FitRule → SampleEntry → Result Source Status
+source_in files rule entry = source_of rule entry (front_in files entry.file 4194304)
+
+-- a sample's file is fetched, and what it says decides
+abbrev pub source_reading : Files → FitRule → SampleEntry → Reading
+source_reading files rule entry = tested_reading entry.file (source_in files rule entry)
+
+-- all of them, in order
+abbrev pub sources_in : Files → Content → Result (List Source) Status
+sources_in files m = each_of (source_in files (rule_of m)) m.samples
+
+-- the address behind the last sample: an entry of the directory has four bytes and a block nine
+abbrev pub bank_end : ℕ → List Source → ℕ
+bank_end base sources = base + 4 * length sources + 9 * sum_by (λ s. s.fitted.blocks) sources
+
+-- the samples that fit into sound memory, of 65,536 bytes
+unfoldable pub with_room : List ℕ → ℕ → List Source → Result (List Source) Status
+with_room bank base sources = if nat_lt 65536 (bank_end base sources) then Err (Full bank (bank_end base sources)) else Ok sources
+
+-- the files of the samples are fetched in order, and then there must be room for their blocks
+abbrev pub sources_reading : Files → Content → Reading
+sources_reading files m =
+    then_read (read_each (source_reading files (rule_of m)) m.samples) (decided (status_of (sources_in files m >>= with_room m.bank m.base)))
+
+-- the names that are stored: the image, then each first pass
+abbrev pub bank_names : Content → List (List ℕ)
+bank_names m = m.bank ∷ map (λ (s : SampleEntry). first_pass_of m.bank s.name) m.samples
+
+-- what is done for a manifest that was read
+abbrev pub bank_course : Files → Content → Reading
+bank_course files m = then_read (sources_reading files m) (writing_course (bank_names m))
+
+abbrev pub course_by : Files → Result Content Status → Reading
+course_by files (Ok m) = bank_course files m
+course_by files (Err s) = nothing_read
+
+-- the manifest is fetched and read, then the files that it names, and then the bank is stored and the report said
+abbrev pub compile_course : Files → List ℕ → Reading
+compile_course files manifest = then_read (tested_reading manifest (meaning_in files manifest)) (course_by files (meaning_in files manifest))
+
+-- a source with what was made of it
+abbrev pub IsMadeOf : Kind → Source → SampleOut → Type 0
+IsMadeOf kind source out = IsCompiled kind source.name source.rate source.fitted out
+
+-- the stored files replay each source with the error that the report gives
+abbrev pub AllReplay : List Source → List SampleOut → List NamedFile → Type 0
+AllReplay sources outs writes = (j : ℕ) (source : Source) (out : SampleOut) (image first : NamedFile)
+    → slice_get sources j ≡ Some source → slice_get outs j ≡ Some out → slice_get writes 0 ≡ Some image → slice_get writes (suc j) ≡ Some first
+    → Replays image.bytes first.bytes j source.rate source.fitted out.report.error
+
+-- what is stored and said for these sources: some blocks are chosen for each, and all else is made of them
+pub record IsBank (m : Content) (sources : List Source) (writes : List NamedFile) (line : List ℕ) : Type 0 where
+  pub outs : List SampleOut
+  pub made : AllZip (IsMadeOf m.kind) sources outs
+  pub files : bank_of m.bank m.base outs ≡ Ok writes
+  pub told : line ≡ report_text outs
+  -- the image plays each source, in whole blocks, as its first pass sounds, with the error that is told
+  pub replays : AllReplay sources outs writes
+
+abbrev pub bank_choice : Files → Content → Choice
+bank_choice files m = λ writes line. (sources : List Source) × (sources_in files m ≡ Ok sources) × IsBank m sources writes line
+
+abbrev pub choice_by : Files → Result Content Status → Choice
+choice_by files (Ok m) = bank_choice files m
+choice_by files (Err s) = λ writes line. ⊥
+
+-- the files that `compile` may store, and the report that it may say
+abbrev pub compile_choice : Files → List ℕ → Choice
+compile_choice files manifest = choice_by files (meaning_in files manifest)

@@ -1,0 +1,10 @@
+pub mod Numbers
+pub mod PlayWords
+pub mod Words
+pub mod Samples
+pub mod Block
+pub mod Play
+pub mod Commands
+pub mod Source
+pub mod Ready
+pub mod Compile

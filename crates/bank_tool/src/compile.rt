@@ -1,0 +1,74 @@
+ghost use Rattle.std.specs.Prelude.{◌≡◌, ◌≢◌, ◌≤◌, ℕ, List, true, false, Some};
+ghost use Rattle.adpcm_nums.specs.Outcome.{Tells};
+ghost use Rattle.host_files.specs.Outside.{Files, Rose};
+ghost use Rattle.machine_core.specs.declared.state.Kind.TheVariants.{Brr};
+ghost use Rattle.manifest_reader.specs.Meaning.{content_of};
+ghost use Rattle.manifest_reader.specs.Ranges.{InRanges};
+ghost use Rattle.command_plan.specs.Ending.{is_device};
+ghost use Rattle.command_plan.specs.Promise.{Reaches, Promises, Finishes};
+ghost use Rattle.bank_tool.specs.Compile.{bank_course, bank_choice, compile_course, compile_choice};
+
+use crate::fetch_bank::fetch_sources;
+use crate::fetch_manifest::fetch_manifest;
+use crate::form_bank::form_bank;
+use adpcm_nums::NoMemory;
+use command_plan::{Status, finish, write_out};
+use host_files::Host;
+use manifest_reader::Manifest;
+use std::alloc::Global;
+
+/// The command `compile MANIFEST`: fetches the manifest and the WAVE files that it names, encodes them, stores the image
+/// under the bank's name and the first pass of each sample, and says the report.
+///
+/// So far it compiles banks of BRR alone, and stores no certificates. A refused run stores nothing.
+pub fn run_compile<H: Host>(alloc: Global, host: &mut H, manifest: &str) -> Status
+    // How the world stands, whatever the host did.
+    ensures told { (files : Files) → (H.world host.old).files ≡ Some files →
+        Promises (compile_course files manifest.now) (compile_choice files manifest.now) (H.world host.old) (H.world host.new) result }
+    // At `Done` the files of some choice of blocks were stored, and its report said.
+    ensures done { (files : Files) → (H.world host.old).files ≡ Some files → result ≡ Status.Done →
+        Finishes (compile_course files manifest.now) (compile_choice files manifest.now) (H.world host.old) (H.world host.new) }
+    // Where the host does not fail, the answer is the one of the course, unless there was no memory.
+    ensures course { (files : Files) → (H.world host.old).files ≡ Some files → is_device result ≡ false →
+        Tells Status.Memory result (compile_course files manifest.now).outcome }
+    // These hold of a host that tells nothing, too.
+    ensures words { result ≢ Status.Words }
+    ensures device { is_device result ≡ true → Rose (H.world host.old).faults (H.world host.new).faults }
+{
+    let status = come_compile(alloc, host, manifest);
+    finish(alloc, host, status)
+}
+
+/// The command `compile` up to the line of its status.
+fn come_compile<H: Host>(alloc: Global, host: &mut H, name: &str) -> Status
+    ensures later { (H.world host.old).faults ≤ (H.world host.new).faults }
+    ensures device { is_device result ≡ true → Rose (H.world host.old).faults (H.world host.new).faults }
+    ensures words { result ≢ Status.Words }
+    ensures told { (files : Files) → (H.world host.old).files ≡ Some files →
+        Reaches (compile_course files name.now) (compile_choice files name.now) (H.world host.old) (H.world host.new) result }
+{
+    match fetch_manifest(alloc, host, name) {
+        Ok(manifest) => come_bank(alloc, host, &manifest),
+        Err(status) => status,
+    }
+}
+
+/// What is done for a manifest that was read, up to the line of its status.
+fn come_bank<H: Host>(alloc: Global, host: &mut H, manifest: &Manifest) -> Status
+    requires ranges { InRanges (content_of manifest.now) }
+    requires kind { manifest.now.kind ≡ Brr }
+    ensures later { (H.world host.old).faults ≤ (H.world host.new).faults }
+    ensures device { is_device result ≡ true → Rose (H.world host.old).faults (H.world host.new).faults }
+    ensures words { result ≢ Status.Words }
+    ensures told { (files : Files) → (H.world host.old).files ≡ Some files →
+        Reaches (bank_course files (content_of manifest.now)) (bank_choice files (content_of manifest.now)) (H.world host.old) (H.world host.new) result }
+{
+    let sources = match fetch_sources(alloc, host, manifest) {
+        Ok(sources) => sources,
+        Err(status) => return status,
+    };
+    match form_bank(alloc, manifest, sources) {
+        Ok((files, line)) => write_out(alloc, host, files.as_slice(), line.as_str()),
+        Err(NoMemory) => Status::Memory,
+    }
+}

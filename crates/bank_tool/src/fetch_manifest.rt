@@ -1,0 +1,84 @@
+ghost use Rattle.std.specs.Prelude.{◌≡◌, ◌≢◌, ◌≤◌, true, false, IfOk, IfErr, Some, Ok};
+ghost use Rattle.adpcm_nums.specs.Outcome.{Gives, Tells};
+ghost use Rattle.host_files.specs.Outside.{Files, Rose};
+ghost use Rattle.machine_core.specs.declared.state.Kind.TheVariants.{Brr};
+ghost use Rattle.manifest_reader.specs.Meaning.{content_of};
+ghost use Rattle.manifest_reader.specs.Ranges.{InRanges};
+ghost use Rattle.command_plan.specs.Ending.{is_device};
+ghost use Rattle.command_plan.specs.Reading.{tested_reading};
+ghost use Rattle.command_plan.specs.Steps.{ReadsTo};
+ghost use Rattle.bank_tool.specs.Source.{brr_alone, manifest_in};
+ghost use Rattle.bank_tool.specs.Compile.{meaning_in};
+
+use adpcm_nums::Text;
+use command_plan::{Status, fetch_front};
+use host_files::Host;
+use machine_core::Kind;
+use manifest_reader::{Manifest, ManifestFault, read_manifest};
+use std::alloc::Global;
+
+/// The status of a fault of a manifest.
+fn manifest_refused(fault: ManifestFault) -> Status
+    ensures memory { fault ≡ ManifestFault.NoMemory → result ≡ Status.Memory }
+    ensures told { Tells Status.Memory result (Status.Manifest fault) }
+{
+    match fault {
+        ManifestFault::NoMemory => Status::Memory,
+        fault => Status::Manifest { fault },
+    }
+}
+
+/// The manifest of a bank of BRR; another format is refused.
+fn brr_alone(alloc: Global, manifest: Manifest) -> Result<Manifest, Status>
+    ensures same { IfOk result (λ m. m ≡ manifest) }
+    ensures kind { IfOk result (λ m. m.kind ≡ Brr) }
+    ensures device { IfErr result (λ s. is_device s ≡ false) }
+    ensures words { IfErr result (λ s. s ≢ Status.Words) }
+    ensures value { Gives Status.Memory content_of result (brr_alone (content_of manifest)) }
+{
+    match manifest.kind {
+        Kind::Brr => Ok(manifest),
+        Kind::Spu | Kind::Ima => match Text::copy_of(alloc, "format") {
+            Ok(key) => Err(Status::Manifest {
+                fault: ManifestFault::BadWord { key },
+            }),
+            Err(_) => Err(Status::Memory),
+        },
+    }
+}
+
+/// The manifest of this name that the bytes spell.
+#[tactic(auto, unfolding(crate::specs::Source::manifest_in))]
+fn manifest_in(alloc: Global, own: &str, bytes: &[u8]) -> Result<Manifest, Status>
+    ensures ranges { IfOk result (λ m. InRanges (content_of m)) }
+    ensures kind { IfOk result (λ m. m.kind ≡ Brr) }
+    ensures device { IfErr result (λ s. is_device s ≡ false) }
+    ensures words { IfErr result (λ s. s ≢ Status.Words) }
+    ensures value { Gives Status.Memory content_of result (manifest_in own.now bytes.now) }
+{
+    match read_manifest(alloc, bytes, own) {
+        Ok(manifest) => brr_alone(alloc, manifest),
+        Err(fault) => Err(manifest_refused(fault)),
+    }
+}
+
+/// The manifest of this name.
+pub(crate) fn fetch_manifest<H: Host>(
+    alloc: Global,
+    host: &mut H,
+    name: &str,
+) -> Result<Manifest, Status>
+    ensures ranges { IfOk result (λ m. InRanges (content_of m)) }
+    ensures kind { IfOk result (λ m. m.kind ≡ Brr) }
+    ensures later { (H.world host.old).faults ≤ (H.world host.new).faults }
+    ensures device { IfErr result (λ s. is_device s ≡ true → Rose (H.world host.old).faults (H.world host.new).faults) }
+    ensures words { IfErr result (λ s. s ≢ Status.Words) }
+    ensures told { (files : Files) → (H.world host.old).files ≡ Some files →
+        ReadsTo (tested_reading name.now (meaning_in files name.now)) (H.world host.old) (H.world host.new) result (λ m. meaning_in files name.now ≡ Ok (content_of m)) }
+{
+    let bytes = match fetch_front(alloc, host, name, 65_536) {
+        Ok(bytes) => bytes,
+        Err(status) => return Err(status),
+    };
+    manifest_in(alloc, name, bytes.as_slice())
+}

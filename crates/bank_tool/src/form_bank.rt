@@ -1,0 +1,72 @@
+ghost use Rattle.std.specs.Prelude.{◌≡◌, ◌≤◌, length, All, IfOk};
+ghost use Rattle.std.specs.List.{AllZip};
+ghost use Rattle.manifest_reader.specs.Meaning.{content_of};
+ghost use Rattle.manifest_reader.specs.Ranges.{IsWithin};
+ghost use Rattle.bank_compile.specs.Bank.{IsOut};
+ghost use Rattle.bank_tool.specs.Compile.{IsMadeOf, IsBank};
+ghost use Rattle.bank_tool.specs.Ready.{IsReady};
+
+use crate::source::Source;
+use adpcm_nums::{NoMemory, Text};
+use bank_compile::{
+    NamedFile, SampleOut, compile_bank, compile_sample, report, stored_bank_replays,
+};
+use manifest_reader::Manifest;
+use std::alloc::Global;
+
+/// One source, compiled.
+fn compile_source(alloc: Global, manifest: &Manifest, source: Source) -> Result<SampleOut, NoMemory>
+    requires { IsReady source }
+    ensures made { IfOk result (IsMadeOf manifest.now.kind source) }
+    ensures out { IfOk result IsOut }
+    ensures bound { IfOk result (λ out. out.report.bound ≤ out.report.error) }
+{
+    let Source { name, rate, fitted } = source;
+    compile_sample(alloc, manifest, name.as_str(), rate, fitted)
+}
+
+/// All sources, compiled in order.
+fn compile_all(
+    alloc: Global,
+    manifest: &Manifest,
+    sources: Vec<Source>,
+) -> Result<Vec<SampleOut>, NoMemory>
+    requires { All IsReady sources.items }
+    ensures count { IfOk result (λ outs. length outs.items ≡ length sources.items) }
+    ensures made { IfOk result (λ outs. AllZip (IsMadeOf manifest.now.kind) sources.items outs.items) }
+    ensures outs { IfOk result (λ outs. All IsOut outs.items) }
+    ensures bounds { IfOk result (λ outs. All (λ out. out.report.bound ≤ out.report.error) outs.items) }
+{
+    let mut outs = Vec::new(alloc);
+    for source in sources {
+        let out = compile_source(alloc, manifest, source)?;
+        match outs.push(out) {
+            Ok(()) => {}
+            Err(_) => return Err(NoMemory),
+        }
+    }
+    Ok(outs)
+}
+
+/// The files of a bank and its report.
+///
+/// The samples have room in sound memory, so laying them out is refused for want of memory alone.
+pub(crate) fn form_bank(
+    alloc: Global,
+    manifest: &Manifest,
+    sources: Vec<Source>,
+) -> Result<(Vec<NamedFile>, Text), NoMemory>
+    requires base { IsWithin 0 65280 256 manifest.now.base }
+    requires some { 1 ≤ length sources.items }
+    requires few { length sources.items ≤ 64 }
+    requires ready { All IsReady sources.items }
+    ensures { IfOk result (λ r. IsBank (content_of manifest.now) sources.items r.0.items r.1) }
+{
+    stored_bank_replays();
+    let outs = compile_all(alloc, manifest, sources)?;
+    let line = report(alloc, outs.as_slice())?;
+    match compile_bank(alloc, manifest, outs.as_slice()) {
+        Ok(files) => Ok((files, line)),
+        Err(_) => Err(NoMemory),
+    }
+}

@@ -1,0 +1,79 @@
+ghost use Rattle.std.specs.Prelude.{◌≡◌, ◌≢◌, ◌≤◌, true, IfErr, Some, Ok};
+ghost use Rattle.machine_core.specs.declared.state.Kind.{Kind};
+ghost use Rattle.host_files.specs.Outside.{Files, Rose};
+ghost use Rattle.command_plan.specs.Ending.{is_device};
+ghost use Rattle.command_plan.specs.Promise.{Reaches, Promises};
+ghost use Rattle.command_plan.specs.Steps.{ReadsTo};
+ghost use Rattle.bank_tool.specs.Play.{said_in, play_reading, play_course, IsPlayed, AnswersPlay};
+
+use crate::outputs::said_of;
+use adpcm_nums::Text;
+use command_plan::{Status, fetch_front, finish, write_out};
+use host_files::Host;
+use machine_core::Kind;
+use std::alloc::Global;
+
+/// The command `play brr FILE ENTRY COUNT`: says the first `count` outputs of an entry of an image file, one in a line.
+///
+/// No entry of the image may have more than 4,096 blocks (this project's own choice). Nothing is said where `count` is 0.
+pub fn run_play<H: Host>(
+    alloc: Global,
+    host: &mut H,
+    kind: Kind,
+    file: &str,
+    entry: u32,
+    count: u32,
+) -> Status
+    requires { kind ≡ Kind.Brr }
+    // How the world stands, whatever the host did.
+    ensures told { (files : Files) → (H.world host.old).files ≡ Some files →
+        Promises (play_course files file.now entry count) (IsPlayed (said_in files file.now entry count)) (H.world host.old) (H.world host.new) result }
+    // What that says in the command's own words.
+    ensures answer { (files : Files) → (H.world host.old).files ≡ Some files →
+        AnswersPlay files file.now entry count (H.world host.old) (H.world host.new) result }
+    // These hold of a host that tells nothing, too.
+    ensures words { result ≢ Status.Words }
+    ensures device { is_device result ≡ true → Rose (H.world host.old).faults (H.world host.new).faults }
+{
+    let status = come_play(alloc, host, file, entry, count);
+    finish(alloc, host, status)
+}
+
+/// The command `play` up to the line of its status.
+fn come_play<H: Host>(alloc: Global, host: &mut H, file: &str, entry: u32, count: u32) -> Status
+    ensures later { (H.world host.old).faults ≤ (H.world host.new).faults }
+    ensures device { is_device result ≡ true → Rose (H.world host.old).faults (H.world host.new).faults }
+    ensures words { result ≢ Status.Words }
+    ensures told { (files : Files) → (H.world host.old).files ≡ Some files →
+        Reaches (play_course files file.now entry count) (IsPlayed (said_in files file.now entry count)) (H.world host.old) (H.world host.new) result }
+{
+    let lines = match fetch_outputs(alloc, host, file, entry, count) {
+        Ok(lines) => lines,
+        Err(status) => return status,
+    };
+    if count == 0 {
+        return Status::Done;
+    }
+    write_out(alloc, host, &[], lines.as_str())
+}
+
+/// The first outputs of an entry of a file, one in a line.
+fn fetch_outputs<H: Host>(
+    alloc: Global,
+    host: &mut H,
+    file: &str,
+    entry: u32,
+    count: u32,
+) -> Result<Text, Status>
+    ensures later { (H.world host.old).faults ≤ (H.world host.new).faults }
+    ensures device { IfErr result (λ s. is_device s ≡ true → Rose (H.world host.old).faults (H.world host.new).faults) }
+    ensures words { IfErr result (λ s. s ≢ Status.Words) }
+    ensures told { (files : Files) → (H.world host.old).files ≡ Some files →
+        ReadsTo (play_reading files file.now entry count) (H.world host.old) (H.world host.new) result (λ lines. said_in files file.now entry count ≡ Ok lines) }
+{
+    let front = match fetch_front(alloc, host, file, 8_388_608) {
+        Ok(front) => front,
+        Err(status) => return Err(status),
+    };
+    said_of(alloc, file, front.as_slice(), entry, count)
+}

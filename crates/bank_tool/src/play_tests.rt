@@ -1,0 +1,134 @@
+use super::{Command, Status, read_words, run, run_play};
+use host_files::{MemoryHost, SteadyHost};
+use machine_core::Kind;
+use std::alloc::Global;
+use std::test::Fail;
+
+/// An image of one entry at base 512 with two blocks, of which the second repeats: codes 1 under shift 5, then zeros
+/// under filter 1.
+const FADING: [u8; 42] = [
+    b'S', b'N', b'B', b'I', 1, 0, 1, 0, 0x00, 0x02, 0, 0, 22, 0, 0, 0, 0x00, 0x7D, 0, 0, 0x04,
+    0x02, 0x0D, 0x02, 0x50, 0x11, 0x11, 0x11, 0x11, 0x11, 0x11, 0x11, 0x11, 0x07, 0, 0, 0, 0, 0, 0,
+    0, 0,
+];
+
+/// What the words say over a file `b`.
+fn said_of(alloc: Global, bytes: &[u8], words: &[&str]) -> Result<(u8, String), Fail> {
+    let mut texts = Vec::new(alloc);
+    for word in words {
+        texts.push(String::from_str(alloc, word)?)?;
+    }
+    let mut host = SteadyHost::new(alloc);
+    host.put("b", bytes).map_err(|_| "memory")?;
+    let status = run(alloc, &mut host, texts.as_slice());
+    let said = std::str::from_utf8(host.said()).map_err(|_| "no text")?;
+    Ok((status.code(), String::from_str(alloc, said)?))
+}
+
+#[test]
+fn says_the_first_outputs(rt: HostRuntime) -> Result<(), Fail> {
+    let alloc = rt.alloc();
+    let (code, said) = said_of(alloc, &FADING, &["play", "brr", "b", "0", "20"])?;
+    assert_eq!(rt; code, 0);
+    assert_eq!(rt;
+        said.as_str(),
+        "16\n16\n16\n16\n16\n16\n16\n16\n16\n16\n16\n16\n16\n16\n16\n16\n15\n14\n13\n12\n"
+    );
+    let mut falling = FADING;
+    falling[25] = 0xFE;
+    let (code, said) = said_of(alloc, &falling, &["play", "brr", "b", "0", "3"])?;
+    assert_eq!(rt; code, 0);
+    assert_eq!(rt; said.as_str(), "-16\n-32\n16\n");
+    Ok(())
+}
+
+#[test]
+fn says_nothing_for_no_outputs(rt: HostRuntime) -> Result<(), Fail> {
+    let alloc = rt.alloc();
+    let mut fails = Vec::new(alloc);
+    fails.push(1)?;
+    let mut host = MemoryHost::new(alloc, fails);
+    host.put("b", &FADING).map_err(|_| "memory")?;
+    let status = run_play(alloc, &mut host, Kind::Brr, "b", 0, 0);
+    assert!(rt; matches!(status, Status::Done));
+    assert_eq!(rt; host.said().len(), 0);
+    assert_eq!(rt; host.faults(), 0);
+    Ok(())
+}
+
+#[test]
+fn refuses_files(rt: HostRuntime) -> Result<(), Fail> {
+    let alloc = rt.alloc();
+    let (code, said) = said_of(alloc, &FADING, &["play", "brr", "b", "1", "5"])?;
+    assert_eq!(rt; code, 4);
+    assert_eq!(rt; said.as_str(), "fault 4 b NoEntry 1 1\n");
+    let (code, said) = said_of(alloc, &FADING[..41], &["play", "brr", "b", "1", "5"])?;
+    assert_eq!(rt; code, 4);
+    assert_eq!(rt; said.as_str(), "fault 4 b ImageLength 41 42\n");
+    let (code, said) = said_of(alloc, &FADING, &["play", "brr", "c", "0", "0"])?;
+    assert_eq!(rt; code, 4);
+    assert_eq!(rt; said.as_str(), "fault 4 c NotImage\n");
+    Ok(())
+}
+
+#[test]
+fn refuses_long_entries(rt: HostRuntime) -> Result<(), Fail> {
+    let alloc = rt.alloc();
+    for (blocks, low, line) in [
+        (4096, 0x04, "fault 4 b NoEntry 7 1\n"),
+        (4097, 0x0D, "fault 4 b TooMuch 4097\n"),
+    ] {
+        let mut front = FADING;
+        front[12] = low;
+        front[13] = 0x90;
+        let mut bytes = Vec::from_slice(alloc, &front[..24])?;
+        for _ in 1..blocks {
+            bytes.extend_from_slice(&[0; 9])?;
+        }
+        bytes.extend_from_slice(&[1, 0, 0, 0, 0, 0, 0, 0, 0])?;
+        let (code, said) = said_of(alloc, bytes.as_slice(), &["play", "brr", "b", "7", "0"])?;
+        assert_eq!(rt; code, 4);
+        assert_eq!(rt; said.as_str(), line);
+    }
+    Ok(())
+}
+
+#[test]
+fn reads_numbers_as_words(rt: HostRuntime) -> Result<(), Fail> {
+    let alloc = rt.alloc();
+    for words in [
+        ["play", "brr", "b", "00", "5"],
+        ["play", "brr", "b", "0", "05"],
+        ["play", "brr", "b", "64", "5"],
+        ["play", "brr", "b", "0", "1000001"],
+        ["play", "brr", "b", "0", "99999999999999999999"],
+        ["play", "brr", "b", "+0", "5"],
+        ["play", "brr", "b", "0", "5 "],
+        ["play", "vag", "b", "0", "5"],
+        ["Play", "brr", "b", "0", "5"],
+    ] {
+        let (code, said) = said_of(alloc, &FADING, &words)?;
+        assert_eq!(rt; code, 2);
+        assert_eq!(rt; said.as_str(), "fault 2 words\n");
+    }
+    let mut words = Vec::new(alloc);
+    for word in ["play", "brr", "b-", "63", "1000000"] {
+        words.push(String::from_str(alloc, word)?)?;
+    }
+    let Some(
+        Command::Play {
+            kind,
+            file,
+            entry,
+            count,
+        },
+    ) = read_words(alloc, words.as_slice())?
+    else {
+        return Err("no command".into());
+    };
+    assert!(rt; kind == Kind::Brr);
+    assert_eq!(rt; file.as_str(), "b-");
+    assert_eq!(rt; entry, 63);
+    assert_eq!(rt; count, 1_000_000);
+    Ok(())
+}

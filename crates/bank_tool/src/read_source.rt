@@ -1,0 +1,152 @@
+ghost use Rattle.std.specs.Prelude.{◌≡◌, ◌≢◌, ◌≤◌, ◌<◌, ◌^◌, false, length, IfOk, IfErr, IfSome};
+ghost use Rattle.adpcm_nums.specs.Outcome.{Gives, Tells};
+ghost use Rattle.adpcm_nums.specs.Sample.{AreSamples};
+ghost use Rattle.machine_core.specs.declared.state.Kind.TheVariants.{Brr};
+ghost use Rattle.loop_fit.specs.Source.{IsLoopIn};
+ghost use Rattle.bank_compile.specs.Sample.{IsBrrFit};
+ghost use Rattle.command_plan.specs.Ending.{is_device};
+ghost use Rattle.bank_tool.specs.Source.{sound_in, loop_in, fit_in, source_of};
+ghost use Rattle.bank_tool.specs.Ready.{IsReady};
+
+use crate::source::Source;
+use adpcm_nums::{LoopAt, Text};
+use bank_compile::fit_is_brr;
+use command_plan::{InputFault, Status, input_refused, unfit};
+use loop_fit::{FitFault, FitRule, Fitted, fit};
+use manifest_reader::SampleEntry;
+use smpl_loops::first_loop;
+use std::alloc::Global;
+use wave_form::{Wave, WaveFault, read_wave};
+
+/// The status of a fault of a WAVE file.
+fn wave_refused(alloc: Global, name: &str, fault: WaveFault) -> Status
+    ensures memory { fault ≡ WaveFault.NoMemory → result ≡ Status.Memory }
+    ensures told { Tells Status.Memory result (Status.Input name.now (InputFault.Wave fault)) }
+{
+    match fault {
+        WaveFault::NoMemory => Status::Memory,
+        _ => input_refused(alloc, name, InputFault::Wave { fault }),
+    }
+}
+
+/// The status of a refusal to fit a sound.
+fn fit_refused(alloc: Global, name: &str, fault: FitFault) -> Status
+    ensures memory { fault ≡ FitFault.NoMemory → result ≡ Status.Memory }
+    ensures told { Tells Status.Memory result (Status.Unfit name.now fault) }
+{
+    match fault {
+        FitFault::NoMemory => Status::Memory,
+        _ => unfit(alloc, name, fault),
+    }
+}
+
+/// The sound of a sample's file, which may have 4,194,304 bytes.
+#[tactic(auto, unfolding(crate::specs::Source::sound_in))]
+fn read_sound(alloc: Global, entry: &SampleEntry, bytes: &[u8]) -> Result<Wave, Status>
+    ensures some_rate { IfOk result (λ wave. 1 ≤ wave.rate) }
+    ensures high_rate { IfOk result (λ wave. wave.rate ≤ 1000000) }
+    ensures range { IfOk result (λ wave. AreSamples wave.samples) }
+    ensures count { IfOk result (λ wave. length wave.samples ≤ 4194304) }
+    ensures device { IfErr result (λ s. is_device s ≡ false) }
+    ensures words { IfErr result (λ s. s ≢ Status.Words) }
+    ensures value { Gives Status.Memory (λ wave. wave) result (sound_in entry.now bytes.now) }
+{
+    let name = entry.name.as_str();
+    if bytes.len() > 4_194_304 {
+        return Err(input_refused(alloc, name, InputFault::FileLong { most: 4_194_304 }));
+    }
+    match read_wave(alloc, bytes, entry.channel) {
+        Ok(wave) => Ok(wave),
+        Err(fault) => Err(wave_refused(alloc, name, fault)),
+    }
+}
+
+/// The loop of a sound, where the manifest takes it.
+#[tactic(auto, unfolding(crate::specs::Source::loop_in))]
+fn read_loop(alloc: Global, entry: &SampleEntry, wave: &Wave) -> Result<Option<LoopAt>, Status>
+    requires { length wave.now.samples ≤ 4194304 }
+    ensures inside { IfOk result (λ at. IfSome at (IsLoopIn (length wave.now.samples))) }
+    ensures device { IfErr result (λ s. is_device s ≡ false) }
+    ensures words { IfErr result (λ s. s ≢ Status.Words) }
+    ensures value { Gives Status.Memory (λ at. at) result (loop_in entry.now wave.now) }
+{
+    if !entry.looped {
+        return Ok(None);
+    }
+    let frames = wave.samples.as_slice().len() as u32;
+    let sampler = match &wave.sampler {
+        Some(body) => Some(body.as_slice()),
+        None => None,
+    };
+    match first_loop(sampler, frames) {
+        Ok(at) => Ok(at),
+        Err(fault) => {
+            let name = entry.name.as_str();
+            Err(input_refused(alloc, name, InputFault::Loop { fault }))
+        }
+    }
+}
+
+/// The sound brought to whole blocks of BRR.
+#[tactic(auto, unfolding(crate::specs::Source::fit_in))]
+fn fit_sound(
+    alloc: Global,
+    rule: FitRule,
+    entry: &SampleEntry,
+    wave: &Wave,
+    at: Option<LoopAt>,
+) -> Result<Fitted, Status>
+    requires kind { rule.kind ≡ Brr }
+    requires block { rule.block ≡ 16 }
+    requires count { length wave.now.samples ≤ 4194304 }
+    requires range { AreSamples wave.now.samples }
+    requires inside { IfSome at (IsLoopIn (length wave.now.samples)) }
+    ensures fit { IfOk result IsBrrFit }
+    ensures device { IfErr result (λ s. is_device s ≡ false) }
+    ensures words { IfErr result (λ s. s ≢ Status.Words) }
+    ensures value { Gives Status.Memory (λ fitted. fitted) result (fit_in rule entry.now wave.now at) }
+{
+    fit_is_brr();
+    match fit(alloc, wave.samples.as_slice(), at, rule) {
+        Ok(fitted) => Ok(fitted),
+        Err(fault) => Err(fit_refused(alloc, entry.name.as_str(), fault)),
+    }
+}
+
+/// What the bytes of a sample's file come to.
+#[tactic(auto, unfolding(crate::specs::Source::source_of))]
+pub(crate) fn read_source(
+    alloc: Global,
+    rule: FitRule,
+    entry: &SampleEntry,
+    bytes: &[u8],
+) -> Result<Source, Status>
+    requires kind { rule.kind ≡ Brr }
+    requires block { rule.block ≡ 16 }
+    ensures ready { IfOk result IsReady }
+    ensures named { IfOk result (λ s. s.name ≡ entry.now.name) }
+    ensures device { IfErr result (λ s. is_device s ≡ false) }
+    ensures words { IfErr result (λ s. s ≢ Status.Words) }
+    ensures value { Gives Status.Memory (λ source. source) result (source_of rule entry.now bytes.now) }
+{
+    let wave = match read_sound(alloc, entry, bytes) {
+        Ok(wave) => wave,
+        Err(status) => return Err(status),
+    };
+    let at = match read_loop(alloc, entry, &wave) {
+        Ok(at) => at,
+        Err(status) => return Err(status),
+    };
+    let fitted = match fit_sound(alloc, rule, entry, &wave, at) {
+        Ok(fitted) => fitted,
+        Err(status) => return Err(status),
+    };
+    match Text::copy_of(alloc, entry.name.as_str()) {
+        Ok(name) => Ok(Source {
+            name,
+            rate: wave.rate,
+            fitted,
+        }),
+        Err(_) => Err(Status::Memory),
+    }
+}

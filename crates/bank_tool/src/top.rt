@@ -1,0 +1,74 @@
+ghost use Rattle.std.specs.Prelude.{◌≡◌, ◌≢◌, ℕ, List, true, false, map, string_bytes, IsSome, Some, None};
+ghost use Rattle.adpcm_nums.specs.Outcome.{Tells};
+ghost use Rattle.machine_core.specs.declared.state.Kind.{Kind};
+ghost use Rattle.host_files.specs.Outside.{Files, Rose};
+ghost use Rattle.command_plan.specs.Ending.{is_device};
+ghost use Rattle.command_plan.specs.Promise.{Promises, Finishes};
+ghost use Rattle.bank_tool.specs.Words.{command_of};
+ghost use Rattle.bank_tool.specs.Block.{AnswersBlock};
+ghost use Rattle.bank_tool.specs.Play.{AnswersPlay};
+ghost use Rattle.bank_tool.specs.PlayWords.{PlaysBrr};
+ghost use Rattle.bank_tool.specs.Commands.{course_of, choice_of};
+
+use crate::block::run_block;
+use crate::compile::run_compile;
+use crate::play::run_play;
+use crate::words::{Command, read_words};
+use adpcm_nums::NoMemory;
+use command_plan::{Status, finish};
+use host_files::Host;
+use std::alloc::Global;
+
+/// Does what the words after the program's name ask for, and says how that ended.
+pub fn run<H: Host>(alloc: Global, host: &mut H, words: &[String]) -> Status
+    // How the world stands, whatever the host did: some plan of the words' command was followed.
+    ensures told { (files : Files) → (H.world host.old).files ≡ Some files →
+        let command = command_of (map string_bytes words.now) in
+        Promises (course_of command files) (choice_of command files) (H.world host.old) (H.world host.new) result }
+    // At `Done` one choice was made, and all of it was stored and said.
+    ensures done { (files : Files) → (H.world host.old).files ≡ Some files → result ≡ Status.Done →
+        let command = command_of (map string_bytes words.now) in
+        Finishes (course_of command files) (choice_of command files) (H.world host.old) (H.world host.new) }
+    // What that says of `block` in its own words.
+    ensures block { (files : Files) (input output : List ℕ) → (H.world host.old).files ≡ Some files → command_of (map string_bytes words.now) ≡ Some (Command.Block input output) →
+        AnswersBlock files input output (H.world host.old) (H.world host.new) result }
+    // And what it says of `play`.
+    ensures play { (files : Files) (kind : Kind) (file : List ℕ) (entry count : ℕ) → (H.world host.old).files ≡ Some files → command_of (map string_bytes words.now) ≡ Some (Command.Play kind file entry count) →
+        AnswersPlay files file entry count (H.world host.old) (H.world host.new) result }
+    // Where the host does not fail, the answer is the one of the words' course, unless there was no memory.
+    ensures course { (files : Files) → (H.world host.old).files ≡ Some files → is_device result ≡ false →
+        Tells Status.Memory result (course_of (command_of (map string_bytes words.now)) files).outcome }
+    // These hold of a host that tells nothing, too.
+    ensures done_command { result ≡ Status.Done → IsSome (command_of (map string_bytes words.now)) }
+    ensures words { result ≡ Status.Words → command_of (map string_bytes words.now) ≡ None }
+    ensures no_command { command_of (map string_bytes words.now) ≡ None → Tells Status.Memory result Status.Words }
+    ensures device { is_device result ≡ true → Rose (H.world host.old).faults (H.world host.new).faults }
+{
+    match read_words(alloc, words) {
+        Err(NoMemory) => Status::Memory,
+        Ok(None) => finish(alloc, host, Status::Words),
+        Ok(Some(command)) => obey(alloc, host, &command),
+    }
+}
+
+/// Does what a command asks for.
+fn obey<H: Host>(alloc: Global, host: &mut H, command: &Command) -> Status
+    requires { PlaysBrr command.now }
+    ensures told { (files : Files) → (H.world host.old).files ≡ Some files →
+        Promises (course_of (Some command.now) files) (choice_of (Some command.now) files) (H.world host.old) (H.world host.new) result }
+    ensures words { result ≢ Status.Words }
+    ensures device { is_device result ≡ true → Rose (H.world host.old).faults (H.world host.new).faults }
+{
+    match command {
+        Command::Block { input, output } => {
+            run_block(alloc, host, input.as_str(), output.as_str())
+        }
+        Command::Compile { manifest } => run_compile(alloc, host, manifest.as_str()),
+        Command::Play {
+            kind,
+            file,
+            entry,
+            count,
+        } => run_play(alloc, host, *kind, file.as_str(), *entry, *count),
+    }
+}

@@ -1,0 +1,108 @@
+ghost use Rattle.std.specs.Prelude.{◌≡◌, IfOk, IfSome, map, string_bytes};
+ghost use Rattle.std.specs.List.{list_all};
+ghost use Rattle.bank_tool.specs.PlayWords.{PlaysBrr};
+ghost use Rattle.bank_tool.specs.Words.{is_word, command_in, command_of};
+
+use crate::play_words::play_command;
+use adpcm_nums::{NoMemory, Text};
+use machine_core::Kind;
+use std::alloc::Global;
+
+/// A command with its words.
+#[derive(Debug, Drop)]
+pub enum Command {
+    /// `block IN OUT`: makes one block of sixteen samples.
+    Block {
+        /// The file of 32 bytes that has the samples, each of 16 bits, the low byte first.
+        input: Text,
+        /// The file that the block is stored as.
+        output: Text,
+    },
+    /// `compile MANIFEST`: compiles the bank of a manifest.
+    Compile {
+        /// The manifest's file.
+        manifest: Text,
+    },
+    /// `play FORM FILE ENTRY COUNT`: says the first outputs of an entry, one in a line.
+    Play {
+        /// The format of the file.
+        kind: Kind,
+        /// The file that has the entry.
+        file: Text,
+        /// The entry, from 0.
+        entry: u32,
+        /// The number of outputs, of one sample each.
+        count: u32,
+    },
+}
+
+/// Whether a word may stand in a command.
+fn may_stand(word: &str) -> bool
+    ensures { result ≡ is_word word.now }
+{
+    match word.as_bytes() {
+        [] => false,
+        [first, ..] => *first != b'-',
+    }
+}
+
+/// Whether all words may stand in a command.
+fn may_all_stand(words: &[String]) -> bool
+    ensures { result ≡ list_all (λ word. is_word (string_bytes word)) words.now }
+{
+    words.iter().all(|word| may_stand(word.as_str()))
+}
+
+/// The command that words are which may stand in one.
+fn known_command(alloc: Global, words: &[String]) -> Result<Option<Command>, NoMemory>
+    ensures { IfOk result (λ o. o ≡ command_in (map string_bytes words.now)) }
+{
+    match words {
+        [name, manifest] => {
+            if name.as_str() == "compile" {
+                let manifest = Text::copy_of(alloc, manifest.as_str())?;
+                Ok(Some(Command::Compile { manifest }))
+            } else {
+                Ok(None)
+            }
+        }
+        [name, input, output] => {
+            if name.as_str() == "block" {
+                let input = Text::copy_of(alloc, input.as_str())?;
+                let output = Text::copy_of(alloc, output.as_str())?;
+                Ok(Some(Command::Block { input, output }))
+            } else {
+                Ok(None)
+            }
+        }
+        [name, form, file, entry, count] => {
+            if name.as_str() == "play" {
+                play_command(
+                    alloc,
+                    form.as_str(),
+                    file.as_str(),
+                    entry.as_str(),
+                    count.as_str(),
+                )
+            } else {
+                Ok(None)
+            }
+        }
+        _ => Ok(None),
+    }
+}
+
+/// The command that the words are, if they are one.
+///
+/// Words are compared exactly. A word that is empty or begins with `-` makes them no command (this
+/// project's own choice).
+pub fn read_words(alloc: Global, words: &[String]) -> Result<Option<Command>, NoMemory>
+    ensures value { IfOk result (λ o. o ≡ command_of (map string_bytes words.now)) }
+    ensures brr { IfOk result (λ o. IfSome o PlaysBrr) }
+{
+    if may_all_stand(words) {
+        known_command(alloc, words)
+    } else {
+        Ok(None)
+    }
+}

@@ -1,0 +1,29 @@
+-- The front of a file is fetched, and a reading of it decides.
+use Rattle.std.proofs.Common.{◌≡◌, ◌⊎◌, ℕ, List, length, refl, sym, ap, ◌∙◌, inl, inr, subst, Result, Ok, Err, arith}
+use Rattle.adpcm_nums.specs.Outcome.{Gives, Tells}
+use Rattle.host_files.specs.Outside.{World}
+use Rattle.command_plan.specs.declared.status.Status.{Status}
+use Rattle.command_plan.specs.declared.status.Status.TheVariants.{Done, Memory}
+use Rattle.command_plan.specs.Ending.{Ending, Declined, ending_of}
+use Rattle.command_plan.specs.Reading.{Reading, fetched, decided, then_read, status_of, tested_reading, Declines}
+use Rattle.command_plan.specs.Steps.{HasRead, Halts}
+use Rattle.command_plan.proofs.Readings.{halts_first, halts_next, reads_next, halts_after}
+use Rattle.command_plan.proofs.Tests.{decides, decides_not}
+
+-- the file could not be fetched
+pub tested_first : {T : Type 0} (name : List ℕ) (read : Result T Status) (a b : World) (s : Status) → Halts (fetched name) a b s → Halts (tested_reading name read) a b s
+tested_first name read a b s h = halts_first (fetched name) (decided (status_of read)) a b s h
+
+-- it was fetched, and nothing is refused
+pub tested_done : {T : Type 0} (name : List ℕ) (read : Result T Status) (v : T) (a b : World) → HasRead (fetched name) a b → read ≡ Ok v → HasRead (tested_reading name read) a b
+tested_done name read v a b h e = reads_next (fetched name) (decided (status_of read)) a b b h (decides (status_of read) b (ap status_of e))
+
+declined : {T : Type 0} (read : Result T Status) (t : Status) → Declines read → read ≡ Err t → ending_of t ≡ Declined
+declined read t d e = subst Declines e d
+
+-- it was fetched, and refused, unless there was no memory for that
+pub tested_refused : {T : Type 0} (name : List ℕ) (read : Result T Status) (s : Status) (a b : World) → HasRead (fetched name) a b → Declines read → (s ≡ Memory) ⊎ (read ≡ Err s) → Halts (tested_reading name read) a b s
+tested_refused name read s a b h d one = elim one [
+  | inl e ↦ subst (λ (t : Status). Halts (tested_reading name read) a b t) (sym e) (halts_first (fetched name) (decided (status_of read)) a b Memory (halts_after (fetched name) a b h))
+  | inr e ↦ halts_next (fetched name) (decided (status_of read)) a b b s h (decides_not (status_of read) s s b (declined read s d e) (ap status_of e) (inr refl))
+]

@@ -1,0 +1,101 @@
+-- The words of every fault: its kind, and then its fields in order. A new fault is one row here.
+use Rattle.std.specs.Prelude.{ℕ, ℤ, pos, List, [], ◌∷◌, ◌++◌, map, codes}
+use Rattle.report_text.specs.declared.part.LinePart.{LinePart}
+use Rattle.report_text.specs.declared.part.LinePart.TheVariants.{Word, Number}
+use Rattle.wave_form.specs.declared.fault.WaveFault.{WaveFault}
+use Rattle.wave_form.specs.declared.fault.WaveFault.TheVariants.{NotRiff, NotWave, Streaming, Truncated, DataTwice, NoFmt, BadFmt, NotPcm, BadChannels, BadRate, BadBits, BadAlign, NeedsChannel, NoChannel, NoData, NoMemory}
+use Rattle.smpl_loops.specs.declared.fault.LoopFault.{LoopFault}
+use Rattle.smpl_loops.specs.declared.fault.LoopFault.TheVariants.{SmplShort, LoopKind, LoopBackwards, LoopOutside}
+use Rattle.loop_fit.specs.declared.fault.FitFault.{FitFault}
+use Rattle.loop_fit.specs.declared.fault.FitFault.TheVariants as fit
+use Rattle.snes_directory.specs.declared.fault.ImageFault.{ImageFault}
+use Rattle.snes_directory.specs.declared.fault.ImageFault.TheVariants as image
+use Rattle.player_model.specs.declared.fault.TrackFault.{TrackFault}
+use Rattle.player_model.specs.declared.fault.TrackFault.TheVariants.{NoEnd, BadAgain}
+use Rattle.manifest_reader.specs.declared.fault.ManifestFault.{ManifestFault}
+use Rattle.manifest_reader.specs.declared.fault.ManifestFault.TheVariants as manifest
+use Rattle.command_plan.specs.declared.input_fault.InputFault.{InputFault}
+use Rattle.command_plan.specs.declared.input_fault.InputFault.TheVariants.{Wave, Loop, Image, Track, FileLong, BlockLength, NoEntry, TooMuch}
+
+-- a kind and its numbers
+unfoldable pub row : List ℕ → List ℕ → List LinePart
+row kind numbers = Word kind ∷ map (λ n. Number (pos n)) numbers
+
+-- a kind and the text that it is about
+unfoldable pub text_row : List ℕ → List ℕ → List LinePart
+text_row kind text = Word kind ∷ Word text ∷ []
+
+-- a number out of range, and its key
+unfoldable pub range_row : List ℕ → ℤ → List LinePart
+range_row key value = text_row (codes "OutOfRange") key ++ (Number value ∷ [])
+
+abbrev pub wave_parts : WaveFault → List LinePart
+wave_parts NotRiff = row (codes "NotRiff") []
+wave_parts NotWave = row (codes "NotWave") []
+wave_parts Streaming = row (codes "Streaming") []
+wave_parts (Truncated at) = row (codes "Truncated") (at ∷ [])
+wave_parts DataTwice = row (codes "DataTwice") []
+wave_parts NoFmt = row (codes "NoFmt") []
+wave_parts (BadFmt len) = row (codes "BadFmt") (len ∷ [])
+wave_parts (NotPcm tag) = row (codes "NotPcm") (tag ∷ [])
+wave_parts (BadChannels channels) = row (codes "BadChannels") (channels ∷ [])
+wave_parts (BadRate rate) = row (codes "BadRate") (rate ∷ [])
+wave_parts (BadBits bits) = row (codes "BadBits") (bits ∷ [])
+wave_parts (BadAlign align) = row (codes "BadAlign") (align ∷ [])
+wave_parts NeedsChannel = row (codes "NeedsChannel") []
+wave_parts (NoChannel channel) = row (codes "NoChannel") (channel ∷ [])
+wave_parts NoData = row (codes "NoData") []
+wave_parts NoMemory = row (codes "NoMemory") []
+
+abbrev pub loop_parts : LoopFault → List LinePart
+loop_parts (SmplShort len) = row (codes "SmplShort") (len ∷ [])
+loop_parts (LoopKind kind) = row (codes "LoopKind") (kind ∷ [])
+loop_parts (LoopBackwards start end) = row (codes "LoopBackwards") (start ∷ end ∷ [])
+loop_parts (LoopOutside end frames) = row (codes "LoopOutside") (end ∷ frames ∷ [])
+
+abbrev pub fit_parts : FitFault → List LinePart
+fit_parts fit.EmptySample = row (codes "EmptySample") []
+fit_parts (fit.LoopLength len block) = row (codes "LoopLength") (len ∷ block ∷ [])
+fit_parts (fit.TooLong blocks) = row (codes "TooLong") (blocks ∷ [])
+fit_parts fit.NoMemory = row (codes "NoMemory") []
+
+abbrev pub image_parts : ImageFault → List LinePart
+image_parts image.NotImage = row (codes "NotImage") []
+image_parts (image.BadVersion version) = row (codes "BadVersion") (version ∷ [])
+image_parts (image.BadEntries count) = row (codes "BadEntries") (count ∷ [])
+image_parts (image.BadBase base) = row (codes "BadBase") (base ∷ [])
+image_parts (image.ImageFull total) = row (codes "ImageFull") (total ∷ [])
+image_parts (image.ImageLength have need) = row (codes "ImageLength") (have ∷ need ∷ [])
+image_parts (image.BadRate entry rate) = row (codes "BadRate") (entry ∷ rate ∷ [])
+image_parts (image.BadEntry entry) = row (codes "BadEntry") (entry ∷ [])
+image_parts (image.BadLoopAddress entry) = row (codes "BadLoopAddress") (entry ∷ [])
+image_parts image.NoMemory = row (codes "NoMemory") []
+
+abbrev pub track_parts : TrackFault → List LinePart
+track_parts (NoEnd at) = row (codes "NoEnd") (at ∷ [])
+track_parts (BadAgain at) = row (codes "BadAgain") (at ∷ [])
+
+abbrev pub manifest_parts : ManifestFault → List LinePart
+manifest_parts (manifest.TooLong len) = row (codes "TooLong") (len ∷ [])
+manifest_parts manifest.NotToml = row (codes "NotToml") []
+manifest_parts (manifest.UnknownKey key) = text_row (codes "UnknownKey") key
+manifest_parts (manifest.MissingKey key) = text_row (codes "MissingKey") key
+manifest_parts (manifest.WrongKind key) = text_row (codes "WrongKind") key
+manifest_parts (manifest.OutOfRange key value) = range_row key value
+manifest_parts (manifest.BadWord key) = text_row (codes "BadWord") key
+manifest_parts manifest.NoSamples = row (codes "NoSamples") []
+manifest_parts (manifest.TooMany count) = row (codes "TooMany") (count ∷ [])
+manifest_parts (manifest.SameName name) = text_row (codes "SameName") name
+manifest_parts (manifest.Clash name) = text_row (codes "Clash") name
+manifest_parts manifest.NoMemory = row (codes "NoMemory") []
+
+-- a fault that holds another prints nothing of its own
+abbrev pub input_parts : InputFault → List LinePart
+input_parts (Wave fault) = wave_parts fault
+input_parts (Loop fault) = loop_parts fault
+input_parts (Image fault) = image_parts fault
+input_parts (Track fault) = track_parts fault
+input_parts (FileLong most) = row (codes "FileLong") (most ∷ [])
+input_parts (BlockLength len) = row (codes "BlockLength") (len ∷ [])
+input_parts (NoEntry entry count) = row (codes "NoEntry") (entry ∷ count ∷ [])
+input_parts (TooMuch blocks) = row (codes "TooMuch") (blocks ∷ [])

@@ -1,0 +1,32 @@
+-- The line that tells a status.
+use Rattle.std.specs.Prelude.{pos, List, ℕ, [], ◌∷◌, codes}
+use Rattle.report_text.specs.declared.part.LinePart.{LinePart}
+use Rattle.report_text.specs.declared.part.LinePart.TheVariants.{Word, Number}
+use Rattle.report_text.specs.Fault.{fault_text}
+use Rattle.command_plan.specs.declared.status.Status.{Status}
+use Rattle.command_plan.specs.declared.status.Status.TheVariants.{Done, Words, Manifest, Input, Unfit, Full, Device, Memory}
+use Rattle.command_plan.specs.declared.status.HostCall.{HostCall}
+use Rattle.command_plan.specs.declared.status.HostCall.TheVariants.{Fetch, Store, Say}
+use Rattle.command_plan.specs.Ending.{code_of}
+use Rattle.command_plan.specs.FaultWords.{row, text_row, manifest_parts, input_parts, fit_parts}
+
+-- a call of the host, and the file that it is about
+abbrev pub call_parts : HostCall → List LinePart
+call_parts (Fetch name) = text_row (codes "fetch") name
+call_parts (Store name) = text_row (codes "store") name
+call_parts Say = Word (codes "say") ∷ []
+
+-- what follows the code in a status' line
+abbrev pub parts_of : Status → List LinePart
+parts_of Done = []
+parts_of Words = Word (codes "words") ∷ []
+parts_of (Manifest fault) = Word (codes "manifest") ∷ manifest_parts fault
+parts_of (Input name fault) = Word name ∷ input_parts fault
+parts_of (Unfit name fault) = Word name ∷ fit_parts fault
+parts_of (Full bank total) = Word bank ∷ row (codes "ImageFull") (total ∷ [])
+parts_of (Device at) = call_parts at
+parts_of Memory = []
+
+-- the line of a status
+unfoldable pub fault_line : Status → List ℕ
+fault_line s = fault_text (code_of s) (parts_of s)

@@ -1,0 +1,192 @@
+ghost use Rattle.std.specs.Prelude.{◌≡◌, ◌++◌, IfOk};
+ghost use Rattle.command_plan.specs.FaultWords.{wave_parts, loop_parts, fit_parts, image_parts, track_parts, input_parts, range_row, manifest_parts};
+
+use crate::input_fault::InputFault;
+use crate::row::{with_number, with_row, with_text};
+use adpcm_nums::NoMemory;
+use loop_fit::FitFault;
+use manifest_reader::ManifestFault;
+use player_model::TrackFault;
+use report_text::LinePart;
+use smpl_loops::LoopFault;
+use snes_directory::ImageFault;
+use std::alloc::Global;
+use wave_form::WaveFault;
+
+/// The words of a fault in a WAVE file.
+fn with_wave(
+    alloc: Global,
+    parts: Vec<LinePart>,
+    fault: &WaveFault,
+) -> Result<Vec<LinePart>, NoMemory>
+    ensures { IfOk result (λ all. all.items ≡ parts.items ++ wave_parts fault.now) }
+{
+    match fault {
+        WaveFault::NotRiff => with_row(alloc, parts, "NotRiff", &[]),
+        WaveFault::NotWave => with_row(alloc, parts, "NotWave", &[]),
+        WaveFault::Streaming => with_row(alloc, parts, "Streaming", &[]),
+        WaveFault::Truncated { at } => with_row(alloc, parts, "Truncated", &[*at]),
+        WaveFault::DataTwice => with_row(alloc, parts, "DataTwice", &[]),
+        WaveFault::NoFmt => with_row(alloc, parts, "NoFmt", &[]),
+        WaveFault::BadFmt { len } => with_row(alloc, parts, "BadFmt", &[*len]),
+        WaveFault::NotPcm { tag } => with_row(alloc, parts, "NotPcm", &[*tag]),
+        WaveFault::BadChannels { channels } => with_row(alloc, parts, "BadChannels", &[*channels]),
+        WaveFault::BadRate { rate } => with_row(alloc, parts, "BadRate", &[*rate]),
+        WaveFault::BadBits { bits } => with_row(alloc, parts, "BadBits", &[*bits]),
+        WaveFault::BadAlign { align } => with_row(alloc, parts, "BadAlign", &[*align]),
+        WaveFault::NeedsChannel => with_row(alloc, parts, "NeedsChannel", &[]),
+        WaveFault::NoChannel { channel } => with_row(alloc, parts, "NoChannel", &[*channel]),
+        WaveFault::NoData => with_row(alloc, parts, "NoData", &[]),
+        WaveFault::NoMemory => with_row(alloc, parts, "NoMemory", &[]),
+    }
+}
+
+/// The words of a fault in a sampler.
+fn with_loop(
+    alloc: Global,
+    parts: Vec<LinePart>,
+    fault: &LoopFault,
+) -> Result<Vec<LinePart>, NoMemory>
+    ensures { IfOk result (λ all. all.items ≡ parts.items ++ loop_parts fault.now) }
+{
+    match fault {
+        LoopFault::SmplShort { len } => with_row(alloc, parts, "SmplShort", &[*len]),
+        LoopFault::LoopKind { kind } => with_row(alloc, parts, "LoopKind", &[*kind]),
+        LoopFault::LoopBackwards { start, end } => {
+            with_row(alloc, parts, "LoopBackwards", &[*start, *end])
+        }
+        LoopFault::LoopOutside { end, frames } => {
+            with_row(alloc, parts, "LoopOutside", &[*end, *frames])
+        }
+    }
+}
+
+/// The words of a refusal to fit.
+pub(crate) fn with_fit(
+    alloc: Global,
+    parts: Vec<LinePart>,
+    fault: &FitFault,
+) -> Result<Vec<LinePart>, NoMemory>
+    ensures { IfOk result (λ all. all.items ≡ parts.items ++ fit_parts fault.now) }
+{
+    match fault {
+        FitFault::EmptySample => with_row(alloc, parts, "EmptySample", &[]),
+        FitFault::LoopLength { len, block } => {
+            with_row(
+                alloc,
+                parts,
+                "LoopLength",
+                &[u64::from(*len), u64::from(*block)],
+            )
+        }
+        FitFault::TooLong { blocks } => with_row(alloc, parts, "TooLong", &[*blocks]),
+        FitFault::NoMemory => with_row(alloc, parts, "NoMemory", &[]),
+    }
+}
+
+/// The words of a fault in a SNES image.
+fn with_image(
+    alloc: Global,
+    parts: Vec<LinePart>,
+    fault: &ImageFault,
+) -> Result<Vec<LinePart>, NoMemory>
+    ensures { IfOk result (λ all. all.items ≡ parts.items ++ image_parts fault.now) }
+{
+    match fault {
+        ImageFault::NotImage => with_row(alloc, parts, "NotImage", &[]),
+        ImageFault::BadVersion { version } => with_row(alloc, parts, "BadVersion", &[*version]),
+        ImageFault::BadEntries { count } => with_row(alloc, parts, "BadEntries", &[*count]),
+        ImageFault::BadBase { base } => with_row(alloc, parts, "BadBase", &[*base]),
+        ImageFault::ImageFull { total } => with_row(alloc, parts, "ImageFull", &[*total]),
+        ImageFault::ImageLength { have, need } => {
+            with_row(alloc, parts, "ImageLength", &[*have, *need])
+        }
+        ImageFault::BadRate { entry, rate } => with_row(alloc, parts, "BadRate", &[*entry, *rate]),
+        ImageFault::BadEntry { entry } => with_row(alloc, parts, "BadEntry", &[*entry]),
+        ImageFault::BadLoopAddress { entry } => {
+            with_row(alloc, parts, "BadLoopAddress", &[*entry])
+        }
+        ImageFault::NoMemory => with_row(alloc, parts, "NoMemory", &[]),
+    }
+}
+
+/// The words of a fault in the blocks of a track.
+fn with_track(
+    alloc: Global,
+    parts: Vec<LinePart>,
+    fault: &TrackFault,
+) -> Result<Vec<LinePart>, NoMemory>
+    ensures { IfOk result (λ all. all.items ≡ parts.items ++ track_parts fault.now) }
+{
+    match fault {
+        TrackFault::NoEnd { at } => with_row(alloc, parts, "NoEnd", &[*at]),
+        TrackFault::BadAgain { at } => with_row(alloc, parts, "BadAgain", &[*at]),
+    }
+}
+
+/// The words of a fault in a fetched file.
+pub(crate) fn with_input(
+    alloc: Global,
+    parts: Vec<LinePart>,
+    fault: &InputFault,
+) -> Result<Vec<LinePart>, NoMemory>
+    ensures { IfOk result (λ all. all.items ≡ parts.items ++ input_parts fault.now) }
+{
+    match fault {
+        InputFault::Wave { fault } => with_wave(alloc, parts, fault),
+        InputFault::Loop { fault } => with_loop(alloc, parts, fault),
+        InputFault::Image { fault } => with_image(alloc, parts, fault),
+        InputFault::Track { fault } => with_track(alloc, parts, fault),
+        InputFault::FileLong { most } => with_row(alloc, parts, "FileLong", &[*most]),
+        InputFault::BlockLength { len } => with_row(alloc, parts, "BlockLength", &[*len]),
+        InputFault::NoEntry { entry, count } => {
+            with_row(
+                alloc,
+                parts,
+                "NoEntry",
+                &[u64::from(*entry), u64::from(*count)],
+            )
+        }
+        InputFault::TooMuch { blocks } => with_row(alloc, parts, "TooMuch", &[*blocks]),
+    }
+}
+
+/// A number of the manifest that is out of range.
+#[tactic(auto, unfolding(crate::specs::FaultWords::range_row))]
+fn with_range(
+    alloc: Global,
+    parts: Vec<LinePart>,
+    key: &str,
+    value: i64,
+) -> Result<Vec<LinePart>, NoMemory>
+    ensures { IfOk result (λ all. all.items ≡ parts.items ++ range_row key.now value) }
+{
+    let parts = with_text(alloc, parts, "OutOfRange", key)?;
+    with_number(parts, value)
+}
+
+/// The words of a fault in the manifest.
+pub(crate) fn with_manifest(
+    alloc: Global,
+    parts: Vec<LinePart>,
+    fault: &ManifestFault,
+) -> Result<Vec<LinePart>, NoMemory>
+    ensures { IfOk result (λ all. all.items ≡ parts.items ++ manifest_parts fault.now) }
+{
+    match fault {
+        ManifestFault::TooLong { len } => with_row(alloc, parts, "TooLong", &[*len]),
+        ManifestFault::NotToml => with_row(alloc, parts, "NotToml", &[]),
+        ManifestFault::UnknownKey { key } => with_text(alloc, parts, "UnknownKey", key.as_str()),
+        ManifestFault::MissingKey { key } => with_text(alloc, parts, "MissingKey", key.as_str()),
+        ManifestFault::WrongKind { key } => with_text(alloc, parts, "WrongKind", key.as_str()),
+        ManifestFault::OutOfRange { key, value } => {
+            with_range(alloc, parts, key.as_str(), *value)
+        }
+        ManifestFault::BadWord { key } => with_text(alloc, parts, "BadWord", key.as_str()),
+        ManifestFault::NoSamples => with_row(alloc, parts, "NoSamples", &[]),
+        ManifestFault::TooMany { count } => with_row(alloc, parts, "TooMany", &[*count]),
+        ManifestFault::SameName { name } => with_text(alloc, parts, "SameName", name.as_str()),
+        ManifestFault::Clash { name } => with_text(alloc, parts, "Clash", name.as_str()),
+        ManifestFault::NoMemory => with_row(alloc, parts, "NoMemory", &[]),
+    }
+}

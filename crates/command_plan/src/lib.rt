@@ -1,0 +1,51 @@
+//! What every command of the program promises, and the functions that a command is made of.
+//!
+//! A command reads files, refuses or goes on, computes, stores files in order and says one line
+//! (or several in one call). Its promise has three parts, all in `specs/`:
+//!
+//! - `Reading`: the host's calls in order up to the test that decides, and the status that it
+//!   decides, as a function of the command's words and the world's files. It is put together by
+//!   `then_read`, `decided`, `read_each` and, last, `writing_course`; so the order of refusals is
+//!   the order in which it is written down.
+//! - `Choice`: which files may be stored and which line may be said, as a relation, since more
+//!   than one may be right.
+//! - `Promises` (and `Follows` below it): how the world stands after a run, whatever the host did,
+//!   by cases on how it ended. `Ending` has four cases. A new status adds a line to `ending_of`,
+//!   `code_of` and `parts_of`, and changes no proof; a new fault adds a row to `specs/FaultWords`
+//!   and `src/fault_words`.
+//!
+//! A command is written in this form:
+//!
+//! 1. Functions that read, each with the result `Result<T, Status>`. They call the host only
+//!    through [`fetch_whole`] (or [`fetch_front`], where a longer file is refused in another way),
+//!    and promise `ReadsTo`. Lemmas: `proofs/Readings` (one after another), `proofs/Tests` (a test
+//!    that passes or refuses), `proofs/Tested` (a front that is read), `proofs/ReadEach` (a loop).
+//! 2. Functions that compute the files and the line. They see no host.
+//! 3. [`write_out`], which stores the files and says the line.
+//! 4. A function `come_..` that joins these, and promises `Reaches`. Lemmas: `ends_early`,
+//!    `ends_short`, `ends_written` and, where nothing is stored or said, `ends_silent` of
+//!    `proofs/Promised`.
+//! 5. The command's public function, which calls 4 and then [`finish`], which says the line of the
+//!    status. It promises `Promises`, by the lemma `promised`; `answers` and `done_is` give what
+//!    that says where the host did not fail, and at `Done`.
+//!
+//! What holds of a host that tells nothing stands in clauses apart: `later` (no fault is taken
+//! back), `device` (a `Device` status only where a fault rose) and `words` (never `Words`).
+#![tactic(auto)]
+
+mod closing;
+mod fault_words;
+mod fetch;
+mod input_fault;
+mod row;
+mod status;
+mod status_line;
+mod stops;
+mod write;
+
+pub use closing::finish;
+pub use fetch::{fetch_front, fetch_whole};
+pub use input_fault::InputFault;
+pub use status::{HostCall, Status};
+pub use stops::{full, input_refused, unfit};
+pub use write::write_out;

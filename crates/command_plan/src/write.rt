@@ -1,0 +1,44 @@
+ghost use Rattle.std.specs.Prelude.{◌≡◌, ◌≢◌, ◌≤◌, true, IfErr};
+ghost use Rattle.host_files.specs.Outside.{Rose};
+ghost use Rattle.command_plan.specs.Ending.{is_device};
+ghost use Rattle.command_plan.specs.Steps.{Comes, writing, StoresTo};
+
+use crate::status::{HostCall, Status};
+use crate::stops::store_failed;
+use host_files::{Host, HostFault, NamedFile};
+use std::alloc::Global;
+
+/// Stores the files in order, and then says the line.
+pub fn write_out<H: Host>(alloc: Global, host: &mut H, writes: &[NamedFile], line: &str) -> Status
+    ensures later { (H.world host.old).faults ≤ (H.world host.new).faults }
+    ensures device { is_device result ≡ true → Rose (H.world host.old).faults (H.world host.new).faults }
+    ensures words { result ≢ Status.Words }
+    ensures told { Comes (writing writes.now line.now) (H.world host.old) (H.world host.new) result }
+{
+    match store_all(alloc, host, writes) {
+        Err(status) => status,
+        Ok(()) => match host.say(line.as_bytes()) {
+            Ok(()) => Status::Done,
+            Err(HostFault::Failed) => Status::Device { at: HostCall::Say },
+            Err(HostFault::NoMemory) => Status::Memory,
+        },
+    }
+}
+
+/// Stores the files in order.
+fn store_all<H: Host>(alloc: Global, host: &mut H, writes: &[NamedFile]) -> Result<(), Status>
+    ensures later { (H.world host.old).faults ≤ (H.world host.new).faults }
+    ensures device { IfErr result (λ s. is_device s ≡ true → Rose (H.world host.old).faults (H.world host.new).faults) }
+    ensures words { IfErr result (λ s. s ≢ Status.Words) }
+    ensures told { StoresTo writes.now (H.world host.old) (H.world host.new) result }
+{
+    for write in writes {
+        let name = write.name.as_str();
+        match host.store(name, write.bytes.as_slice()) {
+            Ok(()) => {}
+            Err(HostFault::Failed) => return Err(store_failed(alloc, name)),
+            Err(HostFault::NoMemory) => return Err(Status::Memory),
+        }
+    }
+    Ok(())
+}

@@ -1,0 +1,86 @@
+#!/usr/bin/env python3
+"""Times the built program on generated inputs, and prints a table.
+
+The inputs are the same on every run. Ratios compare lines of one run: they say how time grows.
+"""
+import os
+import struct
+import subprocess
+import sys
+import time
+
+HERE = os.path.dirname(os.path.abspath(__file__))
+ADBANK = os.path.join(HERE, "..", "build", "adbank")
+WORK = os.path.join(HERE, "..", "build", "bench")
+
+
+def chunk(name, body):
+    return name + struct.pack("<I", len(body)) + body + b"\0" * (len(body) % 2)
+
+
+def noise(frames):
+    """A walk of small random steps, by a linear congruence."""
+    state, value, out = 1, 0, []
+    for _ in range(frames):
+        state = (state * 1664525 + 1013904223) % 2**32
+        value = max(-32768, min(32767, value + (state >> 22) - 512))
+        out.append(value)
+    return out
+
+
+def wave(samples):
+    fmt = struct.pack("<HHIIHH", 1, 1, 32000, 64000, 2, 16)
+    data = struct.pack("<%dh" % len(samples), *samples)
+    return chunk(b"RIFF", b"WAVE" + chunk(b"fmt ", fmt) + chunk(b"data", data))
+
+
+def manifest(bank, file):
+    return 'format = "brr"\nbank = "%s"\n[[sample]]\nname = "s"\nfile = "%s"\n' % (bank, file)
+
+
+def image(blocks):
+    """An image of one entry whose last block repeats from the first."""
+    bodies = b"".join(bytes([0x50 | (3 if b + 1 == blocks else 0)]) + bytes([0x1F] * 8) for b in range(blocks))
+    memory = struct.pack("<HH", 516, 516) + bodies
+    return b"SNBI" + struct.pack("<HHIII", 1, 1, 512, len(memory), 32000) + memory
+
+
+def write(name, content):
+    with open(os.path.join(WORK, name), "wb" if isinstance(content, bytes) else "w") as file:
+        file.write(content)
+
+
+def run(*words):
+    """The least time of three runs, in seconds."""
+    best = None
+    for _ in range(3):
+        begin = time.perf_counter()
+        subprocess.run([ADBANK, *words], cwd=WORK, stdout=subprocess.DEVNULL, check=False)
+        taken = time.perf_counter() - begin
+        best = taken if best is None else min(best, taken)
+    return best
+
+
+def main():
+    if not os.path.exists(ADBANK):
+        sys.exit("bench: run make first")
+    os.makedirs(WORK, exist_ok=True)
+    rows = []
+    for frames in (8192, 65536):
+        write("f%d.wav" % frames, wave(noise(frames)))
+        write("f%d.toml" % frames, manifest("f%d.img" % frames, "f%d.wav" % frames))
+        rows.append(("compile %d frames" % frames, run("compile", "f%d.toml" % frames)))
+    for chunks in (65536, 524286):
+        write("c%d.wav" % chunks, b"RIFF" + struct.pack("<I", 4 + 8 * chunks) + b"WAVE" + b"LIST\0\0\0\0" * chunks)
+        write("c%d.toml" % chunks, manifest("c%d.img" % chunks, "c%d.wav" % chunks))
+        rows.append(("walk %d chunks" % chunks, run("compile", "c%d.toml" % chunks)))
+    write("play.img", image(4096))
+    for count in (100000, 1000000):
+        rows.append(("play %d outputs" % count, run("play", "brr", "play.img", "0", str(count))))
+    print("%-24s %10s %8s" % ("", "seconds", "ratio"))
+    for i, (name, taken) in enumerate(rows):
+        ratio = "" if i % 2 == 0 else "%8.1f" % (taken / rows[i - 1][1])
+        print("%-24s %10.3f %s" % (name, taken, ratio))
+
+
+main()

@@ -1,0 +1,81 @@
+#!/usr/bin/env python3
+"""Makes the sounds of the example bank: a plucked string, a drum and a looped tone.
+
+Each is a 16-bit mono WAVE file; the string and the tone have a loop in a `smpl` chunk.
+The files are the same on every run.
+"""
+import math
+import os
+import struct
+
+RATE = 16000
+HERE = os.path.dirname(os.path.abspath(__file__))
+
+
+def noise(seed):
+    """An endless row of numbers from -1 to 1: a linear congruence."""
+    state = seed
+    while True:
+        state = (state * 1664525 + 1013904223) % 2**32
+        yield state / 2**31 - 1
+
+
+def pluck(frames, period):
+    """A plucked string: a row of noise that is averaged with its neighbour at each turn."""
+    source = noise(1)
+    string = [next(source) for _ in range(period)]
+    out = []
+    for i in range(frames):
+        out.append(string[i % period])
+        string[i % period] = 0.5 * (string[i % period] + string[(i + 1) % period])
+    # the loop is one turn that no longer changes
+    last = out[-period:]
+    return [0.9 * x for x in out + last], (frames, frames + period - 1)
+
+
+def drum(frames):
+    """A drum: a falling tone and some noise, which die away."""
+    source = noise(2)
+    out = []
+    phase = 0.0
+    for i in range(frames):
+        t = i / frames
+        phase += 2 * math.pi * (60 + 140 * math.exp(-8 * t)) / RATE
+        out.append((0.8 * math.sin(phase) + 0.2 * next(source)) * math.exp(-6 * t))
+    return out, None
+
+
+def tone(frames, start, period):
+    """A tone of two partials that swells before its loop."""
+    out = []
+    for i in range(frames):
+        swell = min(1.0, (i + 1) / start)
+        turn = 2 * math.pi * i / period
+        out.append(swell * (0.5 * math.sin(turn) + 0.2 * math.sin(3 * turn)))
+    return out, (start, frames - 1)
+
+
+def chunk(name, body):
+    return name + struct.pack("<I", len(body)) + body + b"\0" * (len(body) % 2)
+
+
+def wave(sound, loop):
+    """The bytes of a WAVE file of a sound, and of its loop where it has one."""
+    samples = [max(-32768, min(32767, round(32767 * x))) for x in sound]
+    body = b"WAVE"
+    body += chunk(b"fmt ", struct.pack("<HHIIHH", 1, 1, RATE, 2 * RATE, 2, 16))
+    body += chunk(b"data", struct.pack("<%dh" % len(samples), *samples))
+    if loop:
+        fields = (0, 0, 10**9 // RATE, 60, 0, 0, 0, 1, 0, 0, 0, loop[0], loop[1], 0, 0)
+        body += chunk(b"smpl", struct.pack("<15I", *fields))
+    return chunk(b"RIFF", body)
+
+
+def main():
+    sounds = {"pluck": pluck(4000, 64), "drum": drum(3000), "tone": tone(1600, 800, 100)}
+    for name, (sound, loop) in sounds.items():
+        with open(os.path.join(HERE, name + ".wav"), "wb") as file:
+            file.write(wave(sound, loop))
+
+
+main()

@@ -7,7 +7,8 @@ use Rattle.machine_core.specs.Nearest.{symbol_cost}
 use Rattle.brr_machine.specs.Brr.{brr, brr_step, output_of, raw_of, prediction_of, shift_of, filter_of}
 use Rattle.brr_machine.specs.Predicted.{predicted_output, predicted_cost, nearest_predicted}
 
-same-cost : (head place : ℕ) (from : State) (target : ℤ) → predicted_cost (shift_of head) (prediction_of (filter_of head) from.a from.b) target ≡ symbol_cost brr head place from target
+-- after a state a code costs what it costs on top of the state's prediction
+pub same-cost : (head place : ℕ) (from : State) (target : ℤ) → predicted_cost (shift_of head) (prediction_of (filter_of head) from.a from.b) target ≡ symbol_cost brr head place from target
 unfolding brr_step output_of raw_of predicted_output predicted_cost
 same-cost head place from target = refl
 

@@ -1,65 +1,57 @@
--- Under filter 0 an output depends on its code alone.
-use Rattle.std.proofs.Common.{◌≡◌, ℕ, zero, suc, ◌*◌, ◌/◌, ◌%◌, ◌<◌, arith, refl, ap, sym, ◌∙◌, List, get_or}
-use Rattle.std.specs.Prelude.{ℤ, pos, ◌+ℤ◌, ◌*ℤ◌, ◌-ℤ◌}
-use Rattle.std.proofs.lemmas.Int.{ints}
-use Rattle.adpcm_nums.specs.Nums.{clamp16_of, wrap15_of, square_of}
+-- Under filter 0 a code costs what it costs on top of the prediction 0.
+use Rattle.std.proofs.Common.{◌≡◌, ℕ, zero, suc, ◌/◌, ◌%◌, ◌<◌, arith, refl, ap, sym, ◌∙◌, List, get_or}
+use Rattle.std.specs.Prelude.{ℤ, pos}
+use Rattle.adpcm_nums.specs.Least.{first_least}
 use Rattle.machine_core.specs.declared.state.State.{State}
-use Rattle.machine_core.specs.Decoder.{start, cost_of}
+use Rattle.machine_core.specs.Decoder.{start}
+use Rattle.machine_core.specs.Nearest.{symbol_cost}
 use Rattle.machine_core.specs.Blocks.{Blocks, state_at, symbol_at}
 use Rattle.machine_core.specs.Sums.{cost_at}
-use Rattle.brr_machine.specs.Brr.{brr, brr_step, sample_of, prediction_of, raw_of, output_of, filter_of}
-use Rattle.brr_machine.specs.Zero.{zero_head, code_cost}
+use Rattle.brr_machine.specs.Brr.{brr, prediction_of, shift_of, filter_of}
+use Rattle.brr_machine.specs.Predicted.{predicted_cost, nearest_predicted}
+use Rattle.brr_machine.specs.Zero.{zero_head, code_cost, nearest_code}
+use Rattle.brr_machine.proofs.Predictions.{same-cost}
 
+-- filter 0 predicts 0
 prediction-zero : (filter : ℕ) (o r : ℤ) → filter ≡ 0 → prediction_of filter o r ≡ pos 0
 unfolding prediction_of
 prediction-zero zero o r e = refl
 prediction-zero (suc n) o r e = absurd (omega (arith, e))
 
-plus-nothing : (x : ℤ) → x +ℤ pos 0 ≡ x
-plus-nothing x = omega (arith, ints)
-
-zero-filter : (shift : ℕ) → (4 * shift) % 4 ≡ 0
+-- a head of filter 0 has filter 0, and its shift
+zero-filter : (shift : ℕ) → filter_of (zero_head shift) ≡ 0
 zero-filter shift = omega arith
 
-zero-shift : (shift : ℕ) → (4 * shift) / 4 ≡ shift
+zero-shift : (shift : ℕ) → shift_of (zero_head shift) ≡ shift
 zero-shift shift = omega arith
 
--- what comes before the clamp under a head of filter 0
-pub raw-zero : (shift code : ℕ) (o r : ℤ) → raw_of (zero_head shift) code o r ≡ sample_of shift code
-unfolding raw_of
-raw-zero shift code o r =
-    ap (λ (n : ℕ). sample_of n code +ℤ prediction_of (filter_of (4 * shift)) o r) (zero-shift shift)
-    ∙ ap (λ (x : ℤ). sample_of shift code +ℤ x) (prediction-zero (filter_of (4 * shift)) o r (zero-filter shift))
-    ∙ plus-nothing (sample_of shift code)
+-- whatever the place and the history are
+any-history : (shift place : ℕ) (from : State) (target : ℤ) → predicted_cost shift (pos 0) target ≡ symbol_cost brr (zero_head shift) place from target
+any-history shift place from target =
+    ap (λ (n : ℕ). predicted_cost n (pos 0) target) (sym (zero-shift shift))
+    ∙ ap (λ (p : ℤ). predicted_cost (shift_of (zero_head shift)) p target) (sym (prediction-zero (filter_of (zero_head shift)) from.a from.b (zero-filter shift)))
+    ∙ same-cost (zero_head shift) place from target
 
--- the output under a head of filter 0, from any history
-pub output-zero : (shift code : ℕ) (o r : ℤ) → output_of (zero_head shift) code o r ≡ wrap15_of (clamp16_of (sample_of shift code))
-unfolding output_of
-output-zero shift code o r = ap (λ (x : ℤ). wrap15_of (clamp16_of x)) (raw-zero shift code o r)
+-- and so in the words of the best block
+pub predicted-zero : (shift : ℕ) (target : ℤ) → predicted_cost shift (pos 0) target ≡ code_cost shift target
+predicted-zero shift target = any-history shift 0 start target
 
-step-a : (head place code : ℕ) (from : State) → (brr_step head place code from).a ≡ output_of head code from.a from.b
-unfolding brr_step
-step-a head place code from = refl
+-- the nearest code is that on top of the prediction 0
+pub nearest-zero : (shift : ℕ) (target : ℤ) → nearest_predicted shift (pos 0) target ≡ nearest_code shift target
+unfolding nearest_predicted
+nearest-zero shift target = ap (λ f. first_least f 16) (predicted-zero shift target)
 
--- the first number of the state after a step under a head of filter 0
-pub step-zero : (shift place code : ℕ) (from : State) → (brr_step (zero_head shift) place code from).a ≡ wrap15_of (clamp16_of (sample_of shift code))
-step-zero shift place code from = step-a (zero_head shift) place code from ∙ output-zero shift code from.a from.b
-
--- what a code costs under filter 0 is what it costs from any state
-same-cost : (s t : State) (target : ℤ) → s.a ≡ t.a → cost_of brr s target ≡ cost_of brr t target
-same-cost s t target e = ap (λ (y : ℤ). square_of (pos 2 *ℤ y -ℤ target)) e
-
-pub cost-zero : (shift place code : ℕ) (from : State) (target : ℤ) → cost_of brr (brr_step (zero_head shift) place code from) target ≡ code_cost shift target code
-cost-zero shift place code from target =
-    same-cost (brr_step (zero_head shift) place code from) (brr_step (zero_head shift) 0 code start) target
-    (step-zero shift place code from ∙ sym (step-zero shift 0 code start))
+-- a code costs what it costs at the start
+cost-zero : (shift place code : ℕ) (from : State) (target : ℤ) → symbol_cost brr (zero_head shift) place from target code ≡ code_cost shift target code
+cost-zero shift place code from target = ap (λ (f : ℕ → ℕ). f code) (sym (any-history shift place from target) ∙ predicted-zero shift target)
 
 -- what the code at a place of a block costs
 cost-under : (head shift : ℕ) (place code : ℕ) (from : State) (target : ℤ) → head ≡ zero_head shift
-    → cost_of brr (brr_step head place code from) target ≡ code_cost shift target code
+    → symbol_cost brr head place from target code ≡ code_cost shift target code
 cost-under head shift place code from target e =
-    ap (λ (h : ℕ). cost_of brr (brr_step h place code from) target) e ∙ cost-zero shift place code from target
+    ap (λ (h : ℕ). symbol_cost brr h place from target code) e ∙ cost-zero shift place code from target
 
+-- the first sixteen samples lie in the first block
 first-block : (k : ℕ) → k < 16 → k / 16 ≡ 0
 first-block k h = omega arith
 

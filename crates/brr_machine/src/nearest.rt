@@ -13,7 +13,8 @@ pub(crate) fn output_cost(output: i32, target: i32) -> u64
     requires low { negsuc 16383 ≤ℤ output }
     requires high { output ≤ℤ pos 16383 }
     requires target { IsSample target }
-    ensures { result ≡ square_of (pos 2 *ℤ output -ℤ target) }
+    ensures value { result ≡ square_of (pos 2 *ℤ output -ℤ target) }
+    ensures bound { result ≤ 2 ^ 32 }
 {
     square(2 * i64::from(output) - i64::from(target))
 }
@@ -51,7 +52,8 @@ pub(crate) fn predicted_cost(shift: u32, prediction: i64, target: i32, code: u32
     requires high { prediction ≤ℤ pos 1000000 }
     requires target { IsSample target }
     requires code { code < 16 }
-    ensures { result ≡ predicted_cost shift prediction target code }
+    ensures value { result ≡ predicted_cost shift prediction target code }
+    ensures bound { result ≤ 2 ^ 32 }
 {
     output_cost(predicted_output(shift, prediction, code), target)
 }

@@ -1,60 +1,14 @@
-ghost use Rattle.std.specs.Prelude.{◌≡◌, ◌^◌, ◌≤◌, ◌<◌, ℤ, pos, negsuc, ◌≤ℤ◌, List, length, All, None};
+ghost use Rattle.std.specs.Prelude.{◌≡◌, ◌≤◌, ◌<◌, ℤ, List, length, All, None};
 ghost use Rattle.adpcm_nums.specs.Sample.{AreSamples};
-ghost use Rattle.machine_core.specs.Decoder.{start};
 ghost use Rattle.machine_core.specs.Blocks.{Blocks, IsLegal};
 ghost use Rattle.machine_core.specs.Sums.{sum_of};
-ghost use Rattle.brr_machine.specs.Brr.{brr, brr_step};
-ghost use Rattle.brr_machine.specs.Zero.{zero_head, code_cost, nearest_code, nearest_codes, shift_sum, best_shift, zero_sum};
+ghost use Rattle.brr_machine.specs.Brr.{brr};
+ghost use Rattle.brr_machine.specs.Zero.{zero_head, nearest_codes, shift_sum, best_shift, zero_sum};
 
 use crate::block::BrrBlock;
-use crate::sample::sample;
-use adpcm_nums::{clamp16, square, wrap15};
+use crate::nearest::{nearest_code, predicted_cost};
 
-/// The output of a code under filter 0, which predicts 0.
-fn zero_output(shift: u32, code: u32) -> i32
-    requires shift { shift < 16 }
-    requires code { code < 16 }
-    ensures value { result ≡ (brr_step (zero_head shift) 0 code start).a }
-    ensures low { negsuc 16383 ≤ℤ result }
-    ensures high { result ≤ℤ pos 16383 }
-{
-    wrap15(clamp16(sample(shift, code)))
-}
-
-/// How far twice the output of a code is from a target, squared.
-fn cost(shift: u32, code: u32, target: i32) -> u64
-    requires shift { shift < 16 }
-    requires code { code < 16 }
-    requires target_low { negsuc 32767 ≤ℤ target }
-    requires target_high { target ≤ℤ pos 32767 }
-    ensures value { result ≡ code_cost shift target code }
-    ensures bound { result ≤ 2 ^ 32 }
-{
-    let output = zero_output(shift, code);
-    square(2 * i64::from(output) - i64::from(target))
-}
-
-/// The first code of least cost.
-fn nearest(shift: u32, target: i32) -> u32
-    requires shift { shift < 16 }
-    requires target_low { negsuc 32767 ≤ℤ target }
-    requires target_high { target ≤ℤ pos 32767 }
-    ensures value { result ≡ nearest_code shift target }
-    ensures range { result < 16 }
-{
-    let mut best = 0;
-    let mut least = cost(shift, 0, target);
-    for code in 1..16u32 {
-        let found = cost(shift, code, target);
-        if found < least {
-            best = code;
-            least = found;
-        }
-    }
-    best
-}
-
-/// The nearest codes of sixteen targets under a shift, and their error.
+/// The nearest codes of sixteen targets under a shift, and their error. Filter 0 predicts 0.
 fn nearest_block(shift: u32, targets: &[i32; 16]) -> ([u8; 16], u64)
     requires shift { shift < 16 }
     requires targets { AreSamples targets.now }
@@ -65,9 +19,9 @@ fn nearest_block(shift: u32, targets: &[i32; 16]) -> ([u8; 16], u64)
     let mut codes = [0u8; 16];
     let mut sum = 0u64;
     for (i, target) in targets.iter().enumerate() {
-        let code = nearest(shift, *target);
+        let code = nearest_code(shift, 0, *target);
         codes[i] = code as u8;
-        sum += cost(shift, code, *target);
+        sum += predicted_cost(shift, 0, *target, code);
     }
     (codes, sum)
 }

@@ -4,6 +4,7 @@ use Rattle.std.proofs.lemmas.Grind.{common_steps}
 use Rattle.std.proofs.lemmas.Int.{to_z-of_z}
 use Rattle.brr_machine.specs.Zero.{code_cost, nearest_code}
 use Rattle.brr_machine.proofs.Fill.{codes_more, range_more}
+use Rattle.brr_machine.proofs.ZeroCosts.{predicted-zero, nearest-zero}
 use Rattle.brr_machine.proofs.ZeroSums.{sum_more, sum_all}
 use Rattle.brr_machine.proofs.zero.nearest_block.Goals as goal
 
@@ -14,14 +15,15 @@ loop-i-preserved c =
     let inside : c.loop-i.i < length c.loop-i.codes = omega arith in
     let within : c.loop-i.i < length c.args.targets.now = omega arith in
     let fits : SFits w32 target = search rules in
-    let code = simp to_z-of_z at c.nearest-code.ensures.value in
-    let cost = simp to_z-of_z at c.cost-sum.ensures.value in
+    let nearest = simp to_z-of_z at c.nearest_code-code.ensures.value in
+    let code = nearest ∙ nearest-zero shift target in
+    let cost = simp to_z-of_z at c.predicted_cost-sum.ensures.value in
     record {
       len = grind (arith, common_steps);
       codes = codes_more (nearest_code shift) _ _ _ _ (pos 0) inside within c.loop-i.invariant.codes code;
-      sum = sum_more shift c.args.targets.now c.loop-i.i c.loop-i.sum c.cost-sum.result (omega arith) (omega arith) c.loop-i.invariant.sum
-          (cost ∙ ap (code_cost shift target) code);
-      range = range_more _ _ _ inside c.loop-i.invariant.range c.nearest-code.ensures.range;
+      sum = sum_more shift c.args.targets.now c.loop-i.i c.loop-i.sum c.predicted_cost-sum.result (omega arith) (omega arith) c.loop-i.invariant.sum
+          (cost ∙ ap (λ f. f c.nearest_code-code.result) (predicted-zero shift target) ∙ ap (code_cost shift target) code);
+      range = range_more _ _ _ inside c.loop-i.invariant.range c.nearest_code-code.ensures.range;
       bound = omega arith;
     }
 

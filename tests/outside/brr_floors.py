@@ -6,23 +6,20 @@ those of docs/FORMATS.md; nothing here is shared with the program.
 
 import random
 
-from window_floor import BRR, brr_samples, floor_of_window
-
-
-def wrapped(x):
-    x = max(-32768, min(32767, x))
-    return (x + 16384) % 32768 - 16384
+import brr
+from window_floor import BRR, floor_of_window
 
 
 def own_floors(head, targets):
+    """For each place the floor of the window, or of the single place, that begins there."""
     shift, number = divmod(head, 4)
-    samples = brr_samples(shift)
+    samples = brr.samples(shift)
     size = [1, 2, 3, 3][number]
     floors = [0] * 16
     for first in range(0, 16 - 16 % size, size):
         window = targets[first : first + size]
         if number == 0:
-            floor = min((2 * wrapped(sample) - window[0]) ** 2 for sample in samples)
+            floor = min(brr.cost(brr.output(sample), window[0]) for sample in samples)
         else:
             r, o, x = [0] * (3 - size) + window
             floor = floor_of_window(BRR[number], samples, (-1, 0), (-1, 0, 1), (r, o, x))

@@ -7,23 +7,21 @@ program.
 
 import random
 
+import brr
+
 # D, A, B, bias, M, scale
 BRR = {1: (16, 15, 0, 0, 15, 2), 2: (32, 61, -30, 0, 61, 2), 3: (64, 115, -52, 0, 123, 2)}
 SPU = {1: (64, 60, 0, 32, 63, 1), 2: (64, 115, -52, 32, 63, 1), 3: (64, 98, -55, 32, 63, 1), 4: (64, 122, -60, 32, 63, 1)}
 NIBBLES = list(range(8)) + list(range(-8, 0))
 
 
-def brr_samples(shift):
-    if shift <= 12:
-        return [n * 2**shift // 2 for n in NIBBLES]
-    return [0 if n >= 0 else -2048 for n in NIBBLES]
-
-
 def spu_samples(shift):
+    """What the codes of SPU-ADPCM stand for under a shift, in order."""
     return [n * 4096 // 2 ** (shift if shift <= 12 else 9) for n in NIBBLES]
 
 
 def floor_of_window(row, samples, ends, wraps, targets):
+    """The floor of one window of three targets, the oldest first."""
     d, a, b, bias, most, scale = row
     r, o, x = targets
     rho = d * x - a * o - b * r
@@ -39,6 +37,7 @@ def floor_of_window(row, samples, ends, wraps, targets):
 
 
 def show(random_numbers, name, filters, samples, ends, wraps):
+    """Prints two cases of each filter."""
     for number, row in filters.items():
         for spread in (1000, 32768):
             r, o, x = (random_numbers.randrange(-spread, spread) for _ in range(3))
@@ -49,12 +48,12 @@ def show(random_numbers, name, filters, samples, ends, wraps):
 
 if __name__ == "__main__":
     numbers = random.Random(20)
-    show(numbers, "brr", BRR, brr_samples(6), (-1, 0), (-1, 0, 1))
+    show(numbers, "brr", BRR, brr.samples(6), (-1, 0), (-1, 0, 1))
     show(numbers, "spu", SPU, spu_samples(4), (32767, -32768), (0,))
     # one output of clamping is the target itself
-    print(floor_of_window(BRR[2], brr_samples(6), (-1, 0), (-1, 0, 1), (-30000, -200, -2)))
-    print(floor_of_window(BRR[2], brr_samples(6), (-1, 0), (-1, 0, 1), (-30000, -200, 0)))
+    print(floor_of_window(BRR[2], brr.samples(6), (-1, 0), (-1, 0, 1), (-30000, -200, -2)))
+    print(floor_of_window(BRR[2], brr.samples(6), (-1, 0), (-1, 0, 1), (-30000, -200, 0)))
     print(floor_of_window(SPU[1], spu_samples(4), (32767, -32768), (0,), (0, 5, 32766)))
     print(floor_of_window(SPU[1], spu_samples(4), (32767, -32768), (0,), (0, 5, -32768)))
-    assert floor_of_window(BRR[1], brr_samples(11), (-1, 0), (-1, 0, 1), (0, 2, 6144)) == 0
-    assert floor_of_window(BRR[1], brr_samples(13), (-1, 0), (-1, 0, 1), (0, 0, 100)) == 5323
+    assert floor_of_window(BRR[1], brr.samples(11), (-1, 0), (-1, 0, 1), (0, 2, 6144)) == 0
+    assert floor_of_window(BRR[1], brr.samples(13), (-1, 0), (-1, 0, 1), (0, 0, 100)) == 5323

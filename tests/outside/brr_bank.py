@@ -119,27 +119,26 @@ def heads_allowed(begins):
 
 
 def choose_block(begins, last, older, targets):
-    """The sum, head and codes of the first allowed head of least sum."""
-    best = (math.inf, None, None)
+    """The first allowed head of least sum, and its codes."""
+    least, best = math.inf, None
     for head in heads_allowed(begins):
-        found = follow(head, last, older, targets, best[0])
+        found = follow(head, last, older, targets, least)
         if found:
-            best = (found[0], head, found[1])
+            least, best = found[0], (head, found[1])
     return best
 
 
 def encode(targets, loop_block):
-    """The blocks of a sample, its outputs, and its error."""
+    """The blocks of a sample, and its outputs."""
     count = len(targets) // 16
-    blocks, outputs, error = [], [0, 0], 0
+    blocks, outputs = [], [0, 0]
     for block in range(count):
         older, last = outputs[-2:]
         end = 0 if block + 1 < count else 1 if loop_block is None else 3
-        cost, head, codes = choose_block(block in (0, loop_block), last, older, targets[16 * block : 16 * block + 16])
+        head, codes = choose_block(block in (0, loop_block), last, older, targets[16 * block : 16 * block + 16])
         blocks.append(brr.spell(head, codes, end))
         outputs += brr.decode(blocks[-1], last, older)
-        error += cost
-    return b"".join(blocks), outputs[2:], error
+    return b"".join(blocks), outputs[2:]
 
 
 # The bound
@@ -275,10 +274,10 @@ def form_bank(files, own):
     starts = lay_out(manifest, found)
     stored, blocks, report = {}, [], ""
     for sample in found:
-        body, outputs, error = encode(sample.targets, sample.loop_block)
+        body, outputs = encode(sample.targets, sample.loop_block)
         blocks.append(body)
         stored[first_pass_name(manifest["bank"], sample.name)] = first_pass(sample, outputs)
-        report += sample_line(sample, error)
+        report += sample_line(sample, sum(map(brr.cost, outputs, sample.targets)))
     stored[manifest["bank"]] = image(manifest["base"], found, starts, blocks)
     return stored, report + f"done {len(found)} samples {len(stored)} files\n"
 

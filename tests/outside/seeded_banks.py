@@ -9,6 +9,7 @@ import random
 import struct
 from typing import NamedTuple
 
+import brr
 from wave_file import EXTENSIBLE, PCM, chunk, fmt, riff, smpl
 
 OWN = "m.toml"
@@ -67,7 +68,7 @@ def tone(rng, count):
 def saw(rng, count):
     """A ramp again and again."""
     period, step = rng.randrange(2, 60), rng.randrange(1, 1000)
-    return [max(-32768, min(32767, step * (i % period - period // 2))) for i in range(count)]
+    return [brr.clamp(step * (i % period - period // 2)) for i in range(count)]
 
 
 def odd(rng, count):
@@ -84,7 +85,7 @@ def walk(rng, count):
     """Small steps up and down."""
     value, found = 0, []
     for _ in range(count):
-        value = max(-32768, min(32767, value + rng.randrange(-900, 901)))
+        value = brr.clamp(value + rng.randrange(-900, 901))
         found.append(value)
     return found
 
@@ -94,7 +95,18 @@ def clicks(rng, count):
     return [rng.randrange(-32768, 32768) if rng.randrange(9) == 0 else 0 for _ in range(count)]
 
 
-SOUNDS = (silence, noise, hiss, square, tone, saw, odd, loud, walk, clicks)
+def decoded(rng, count):
+    """What blocks of any heads and codes stand for, and a little noise: it wraps and swings as only a decoder does."""
+    found, last, older, spread = [], 0, 0, rng.choice((0, 3, 300))
+    while len(found) < count:
+        codes = [rng.randrange(16) for _ in range(16)]
+        for _, out in brr.steps(rng.randrange(64), codes, last, older):
+            last, older = out, last
+            found.append(brr.clamp(2 * out + rng.randrange(-spread, spread + 1)))
+    return found[:count]
+
+
+SOUNDS = (silence, noise, hiss, square, tone, saw, odd, loud, walk, clicks, decoded, decoded)
 
 
 def pack(sounds, bits):
@@ -168,6 +180,13 @@ def fitting_bank(number):
     return Bank(f"seed {number}", files, OWN, "sample ")
 
 
+# The second block is best under shift 13 and filter 2, or 3: each step of least cost leads the shifts below it astray.
+SWINGS = (
+    [-4448, 173, -39, -4424, -141, -73, -4200, 42, -4330, -4134, -4005, 159, 0, -234, -3885, -103]
+    + [-461, -101, -4425, -8319, -16237, -26516, 29626, 240, -32217, 265, 26734, -18896, 286, 14116, 22544, 29431],
+    [-3901, -7, 152, -385, -264, -4117, 215, -45, -3996, -199, -3915, -394, -342, -4493, 240, -4356]
+    + [-7244, -13654, -23553, 30817, -79, -29447, 8649, -25658, 7335, -30805, -125, 21251, -32078, 228, 25828, -23356],
+)
 RAMP = [90 * i for i in range(40)]
 SOUND = wave([RAMP])
 ONE = {"name": "s", "file": "s.wav"}
@@ -184,6 +203,8 @@ def edges():
     data = chunk(b"data", sound)
     whole, round_ = "sample s blocks 3 loop none", "sample s blocks 2 loop 1"
     yield edge("memory full", "sample s blocks 28 loop none", {"s.wav": wave([[-7] * 448])}, base=65280)
+    for filter_, swing in zip((2, 3), SWINGS):
+        yield edge(f"shift 13, filter {filter_}", "sample s blocks 2 loop none", {"s.wav": wave([swing])})
     yield edge("rest after the chunks", whole, {"s.wav": SOUND + b"rest..."})
     yield edge("rest of a frame, no pad byte", whole, {"s.wav": riff([plain, chunk(b"data", sound + b"\1")])[:-1]})
     long_fmt, short_fmt = chunk(b"fmt ", plain[8:] + bytes(2)), chunk(b"fmt ", plain[8:20])

@@ -1,7 +1,8 @@
 """Manifests of banks read, with their first fault, plainly.
 
 The rules are those of docs/FORMATS.md; nothing here is shared with the program. Manifests are TOML, which Python's own
-`tomllib` reads from Python 3.11 on.
+`tomllib` reads from Python 3.11 on, in its version 1.0 and with numbers of any size. What only a later TOML allows, or a
+number beyond 64 bits, may be read otherwise here than by the program.
 """
 
 import re

@@ -47,9 +47,11 @@ def nearest_rows(count):
     for _ in range(200000):
         head, size = rng.randrange(64), rng.choice([50, 1500, 16384])
         last, older = rng.randrange(-size, size), rng.randrange(-size, size)
-        target = rng.choice([rng.randrange(-32768, 32768), rng.randrange(-300, 300), brr.clamp(2 * last + rng.randrange(-200, 200))])
+        targets = [rng.randrange(-32768, 32768), rng.randrange(-300, 300), brr.clamp(2 * last + rng.randrange(-200, 200))]
+        target = rng.choice(targets)
         sums, found = raws(head, last, older), costs(head, last, older, target)
-        kind = (found.count(min(found)) > 1, any(not -16384 <= raw < 16384 for raw in sums), any(brr.clamp(raw) != raw for raw in sums))
+        twice, wraps = found.count(min(found)) > 1, any(not -16384 <= raw < 16384 for raw in sums)
+        kind = (twice, wraps, any(brr.clamp(raw) != raw for raw in sums))
         if seen.get(kind, 0) < count:
             seen[kind] = seen.get(kind, 0) + 1
             rows.append((head, last, older, target, nearest(head, last, older, target)))

@@ -1,8 +1,8 @@
 -- The sources of a bank and its files, over plain variables.
-use Rattle.std.proofs.Common.{◌≡◌, ℕ, zero, suc, ◌≤◌, List, [], ◌∷◌, ◌++◌, length, map, Bool, refl, sym, ap, subst, ◌∙◌, arith, Some, Result, Ok, Err, nat_lt, slice_get, inl, inr}
+use Rattle.std.proofs.Common.{◌≡◌, ℕ, zero, suc, ◌≤◌, List, [], ◌∷◌, ◌++◌, length, map, Bool, refl, sym, ap, subst, ◌∙◌, arith, Some, Result, Ok, Err, nat_lt, slice_get, get_or, All}
 use Rattle.std.specs.List.{AllZip}
 use Rattle.std.specs.Result.{IfOk}
-use Rattle.std.proofs.lemmas.Option.{slice_get_within}
+use Rattle.std.proofs.lemmas.Option.{slice_get_within, get_or_from_slice_get}
 use Rattle.adpcm_nums.specs.Outcome.{Gives, ◌>>=◌}
 use Rattle.host_files.specs.Outside.{World, Files}
 use Rattle.host_files.specs.declared.named_file.NamedFile.{NamedFile}
@@ -13,25 +13,21 @@ use Rattle.manifest_reader.specs.Stored.{first_pass_of}
 use Rattle.snes_directory.specs.declared.fault.LayFault.{LayFault}
 use Rattle.bank_compile.specs.declared.sample.SampleOut.{SampleOut}
 use Rattle.bank_compile.specs.Bank.{bank_of, image_of, bank_files, first_file}
+use Rattle.bank_compile.specs.Replay.{Replays, blocks_in}
+use Rattle.bank_compile.specs.Bound.{IsBound}
+use Rattle.report_text.specs.declared.report.SampleReport.{SampleReport}
 use Rattle.command_plan.specs.declared.status.Status.{Status}
 use Rattle.command_plan.specs.declared.status.Status.TheVariants.{Full, Memory}
 use Rattle.command_plan.specs.Plan.{names_in}
 use Rattle.command_plan.specs.Reading.{Reading, then_read, decided, read_each, status_of, Declines}
 use Rattle.command_plan.specs.Steps.{HasRead, Halts, ReadsTo}
-use Rattle.command_plan.proofs.Readings.{halts_first, halts_next, reads_next, halts_after}
-use Rattle.command_plan.proofs.Tests.{decides, decides_not}
+use Rattle.command_plan.proofs.Readings.{halts_first}
+use Rattle.command_plan.proofs.Tested.{tested_after}
 use Rattle.bank_tool.specs.declared.source.Source.{Source}
 use Rattle.bank_tool.specs.Source.{rule_of}
+use Rattle.bank_tool.specs.Stored.{IsStored}
 use Rattle.bank_tool.specs.Compile.{each_of, source_in, source_reading, sources_in, sources_reading, bank_end, with_room, bank_names, IsMadeOf}
 use Rattle.bank_tool.proofs.SourceSteps.{test-declines}
-
--- after a reading, a test of what was read
-pub tested_after : {X T : Type 0} (c : Reading) (view : X → T) (r : Result X Status) (read : Result T Status) (x : X) (P : X → Type 0) (a b : World) → HasRead c a b → Declines read → Gives Memory view r read → IfOk r (λ v. v ≡ x) → P x → ReadsTo (then_read c (decided (status_of read))) a b r P
-tested_after c view (Ok v) read x P a b h d g same p = (reads_next c (decided (status_of read)) a b b h (decides (status_of read) b (ap status_of g)), subst P (sym same) p)
-tested_after c view (Err s) read x P a b h d g same p = elim g as (λ _. Halts (then_read c (decided (status_of read))) a b s) [
-  | inl e ↦ subst (λ (t : Status). Halts (then_read c (decided (status_of read))) a b t) (sym e) (halts_first c (decided (status_of read)) a b Memory (halts_after c a b h))
-  | inr e ↦ halts_next c (decided (status_of read)) a b b s h (decides_not (status_of read) s s b (subst Declines e d) (ap status_of e) (inr refl))
-]
 
 room-declines : (bank : List ℕ) (base : ℕ) (sources : List Source) → Declines (with_room bank base sources)
 unfolding with_room
@@ -51,6 +47,10 @@ sources_tested items files m entries bank v r a b e n h each same g =
     let room = subst (λ (x : List ℕ). Gives Memory items r (with_room x m.base (items v))) n g in
     subst (λ (x : Result (List Source) Status). ReadsTo (then_read (read_each (source_reading files (rule_of m)) m.samples) (decided (status_of (x >>= with_room m.bank m.base)))) a b r (λ w. sources_in files m ≡ Ok (items w))) (sym all)
     (tested_after (read_each (source_reading files (rule_of m)) m.samples) items r (with_room m.bank m.base (items v)) v (λ w. sources_in files m ≡ Ok (items w)) a b read (room-declines m.bank m.base (items v)) room same all)
+
+-- what holds of all elements, at one place
+pub all_at : {X : Type 0} (P : X → Type 0) (xs : List X) (j : ℕ) (x : X) → All P xs → slice_get xs j ≡ Some x → P x
+all_at P xs j x all e = subst P (get_or_from_slice_get xs j x x e) (all j x (slice_get_within xs j x e))
 
 -- what stands at one place of both lists
 pub zip_at : {X Y : Type 0} (R : X → Y → Type 0) (xs : List X) (ys : List Y) (j : ℕ) (x : X) (y : Y) → AllZip R xs ys → slice_get xs j ≡ Some x → slice_get ys j ≡ Some y → R x y
@@ -88,3 +88,12 @@ names_stored m sources outs writes named made files =
     ∙ sym (map_map (first_pass_of m.bank) (λ (s : Source). s.name) sources)
     ∙ ap (map (first_pass_of m.bank)) named
     ∙ map_map (first_pass_of m.bank) (λ (e : SampleEntry). e.name) m.samples)
+
+-- a bound that holds, and stored files that replay a source, are what is promised of it
+pub stored_sample : (image first : List ℕ) (j : ℕ) (source : Source) (report : SampleReport) → Replays image first j source.rate source.fitted report.error → IsBound source.fitted report.bound → IsStored image first j source report
+stored_sample image first j source report replays bound = record {
+  replays = replays;
+  bound = bound;
+  gap = subst (λ (n : ℕ). report.bound ≤ n) (sym replays.error_is) (bound (blocks_in replays.bank.memory (get_or replays.bank.starts j 0) source.fitted.blocks) replays.legal);
+  optimal = λ e. subst (IsBound source.fitted) (sym e) bound;
+}

@@ -19,6 +19,8 @@ use Rattle.bank_tool.proofs.PlaySteps.{answers_play}
 use Rattle.bank_tool.proofs.BlockSteps.{answers_block}
 use Rattle.bank_tool.specs.Words.{is_word, command_in, command_of}
 use Rattle.bank_tool.specs.Compile.{compile_course, compile_choice}
+use Rattle.bank_tool.specs.Compiled.{AnswersCompile}
+use Rattle.bank_tool.proofs.CompiledSteps.{answers_compile}
 use Rattle.bank_tool.specs.Commands.{course_of, choice_of}
 
 -- words that are no command, and the line that says so
@@ -42,6 +44,11 @@ block_answers o files input output a b r e h =
 pub play_answers : (o : Option Command) (files : Files) (kind : Kind) (file : List ℕ) (entry count : ℕ) (a b : World) (r : Status) → o ≡ Some (Play kind file entry count) → Promises (course_of o files) (choice_of o files) a b r → AnswersPlay files file entry count a b r
 play_answers o files kind file entry count a b r e h =
     answers_play files file entry count a b r (subst (λ (x : Option Command). Promises (course_of x files) (choice_of x files) a b r) e h)
+
+-- words that are `compile`
+pub compile_answers : (o : Option Command) (files : Files) (manifest : List ℕ) (a b : World) (r : Status) → o ≡ Some (Compile manifest) → Promises (course_of o files) (choice_of o files) a b r → AnswersCompile files manifest a b r
+compile_answers o files manifest a b r e h =
+    answers_compile files manifest a b r (subst (λ (x : Option Command). Promises (course_of x files) (choice_of x files) a b r) e h)
 
 -- a command that is `block`
 pub block_obeys : (command : Command) (files : Files) (x y input output : List ℕ) (a b : World) (r : Status) → command ≡ Block x y → input ≡ x → output ≡ y → Promises (block_course files input output) (IsBlock (targets_in files input) output) a b r → Promises (course_of (Some command) files) (choice_of (Some command) files) a b r

@@ -1,32 +1,17 @@
 -- The command `compile`, over plain variables.
-use Rattle.std.proofs.Common.{◌≡◌, ◌++◌, ℕ, List, refl, sym, ap, subst, ◌∙◌, map, Result, Ok}
+use Rattle.std.proofs.Common.{◌≡◌, ℕ, List, sym, subst, map, Result, Ok}
 use Rattle.host_files.specs.Outside.{World, Files}
 use Rattle.host_files.specs.declared.named_file.NamedFile.{NamedFile}
 use Rattle.manifest_reader.specs.declared.manifest.SampleEntry.{SampleEntry}
 use Rattle.manifest_reader.specs.Meaning.{Content}
 use Rattle.command_plan.specs.declared.status.Status.{Status}
-use Rattle.command_plan.specs.declared.status.HostCall.{HostCall}
-use Rattle.command_plan.specs.Reading.{Reading, then_read, tested_reading}
+use Rattle.command_plan.specs.Reading.{tested_reading}
 use Rattle.command_plan.specs.Steps.{HasRead, Comes, writing}
-use Rattle.command_plan.specs.Promise.{Choice, Reaches}
-use Rattle.command_plan.proofs.Readings.{then_read-done, moved, comes_moved}
-use Rattle.command_plan.proofs.Promised.{ends_written}
+use Rattle.command_plan.specs.Promise.{Reaches}
+use Rattle.command_plan.proofs.Promised.{ends_written, reaches_next}
 use Rattle.bank_tool.specs.declared.source.Source.{Source}
 use Rattle.bank_tool.proofs.BankSteps.{names_stored}
 use Rattle.bank_tool.specs.Compile.{sources_in, sources_reading, bank_names, IsBank, meaning_in, course_by, choice_by, bank_course, bank_choice, compile_course, compile_choice}
-
--- a command that comes to a status after a reading
-reaches_next : (c d : Reading) (May : Choice) (a m b : World) (s : Status) → HasRead c a m → Reaches d May m b s → Reaches (then_read c d) May a b s
-reaches_next c d May a m b s h r =
-    let done = then_read-done c d h.outcome in (
-      moved c.calls r.0,
-      record {
-        calls = ap (λ (xs : List HostCall). c.calls ++ xs) r.1.calls ∙ sym (ap (λ (x : Reading). x.calls) done);
-        outcome = r.1.outcome ∙ sym (ap (λ (x : Reading). x.outcome) done);
-        choice = r.1.choice;
-      },
-      comes_moved c.calls r.0 a m b s h.quiet r.2,
-    )
 
 -- the manifest was read, and its bank came to a status
 pub reaches_compiled : (files : Files) (name : List ℕ) (m : Content) (a n b : World) (s : Status) → HasRead (tested_reading name (meaning_in files name)) a n → meaning_in files name ≡ Ok m → Reaches (bank_course files m) (bank_choice files m) n b s → Reaches (compile_course files name) (compile_choice files name) a b s

@@ -8,3 +8,4 @@ pub mod CommandSteps
 pub mod SourceSteps
 pub mod BankSteps
 pub mod CompileSteps
+pub mod CompiledSteps

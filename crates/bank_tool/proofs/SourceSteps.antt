@@ -21,9 +21,7 @@ use Rattle.command_plan.specs.declared.status.Status.{Status}
 use Rattle.command_plan.specs.declared.status.Status.TheVariants.{Manifest, Input, Unfit, Memory}
 use Rattle.command_plan.specs.declared.input_fault.InputFault.TheVariants.{Wave as WaveInput, Loop, FileLong}
 use Rattle.command_plan.specs.Ending.{Declined, ending_of}
-use Rattle.command_plan.specs.Reading.{fetched, tested_reading, Declines}
-use Rattle.command_plan.specs.Steps.{HasRead, ReadsTo}
-use Rattle.command_plan.proofs.Tested.{tested_done, tested_refused}
+use Rattle.command_plan.specs.Reading.{Declines}
 use Rattle.command_plan.proofs.ReadEach.{map_more}
 use Rattle.command_plan.proofs.Fronts.{take-next}
 use Rattle.bank_tool.specs.Compile.{each_of}
@@ -76,11 +74,6 @@ source-declines rule entry bytes =
     then-declines (sound_in entry bytes) _ (sound-declines entry bytes)
     (λ wave. then-declines (loop_in entry wave) _ (loop-declines entry wave)
     (λ at. then-declines (fit_in rule entry wave at) _ (fit-declines rule entry wave at) (λ fitted. tt)))
-
--- a file was fetched, and a reading of its front decides
-pub tested : {T X : Type 0} (name : List ℕ) (view : X → T) (r : Result X Status) (read : Result T Status) (a b : World) → HasRead (fetched name) a b → Declines read → Gives Memory view r read → ReadsTo (tested_reading name read) a b r (λ v. read ≡ Ok (view v))
-tested name view (Ok x) read a b h d g = (tested_done name read (view x) a b h g, g)
-tested name view (Err s) read a b h d g = tested_refused name read s a b h d g
 
 -- a sound that was read can be fitted to blocks of BRR
 pub is_source : (held samples : List ℤ) (at : Option LoopAt) (rule : FitRule) → samples ≡ held → length held ≤ 4194304 → AreSamples held → IfSome at (IsLoopIn (length held)) → rule.kind ≡ Brr → rule.block ≡ 16 → IsSource samples at rule

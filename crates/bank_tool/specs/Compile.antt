@@ -13,13 +13,13 @@ use Rattle.bank_compile.specs.declared.sample.SampleOut.{SampleOut}
 use Rattle.bank_compile.specs.Sample.{IsCompiled}
 use Rattle.bank_compile.specs.Bank.{bank_of}
 use Rattle.bank_compile.specs.Told.{report_text}
-use Rattle.bank_compile.specs.Replay.{Replays}
 use Rattle.command_plan.specs.declared.status.Status.{Status}
 use Rattle.command_plan.specs.declared.status.Status.TheVariants.{Full}
 use Rattle.command_plan.specs.Reading.{Reading, nothing_read, then_read, decided, read_each, writing_course, status_of, tested_reading}
 use Rattle.command_plan.specs.Promise.{Choice}
 use Rattle.bank_tool.specs.declared.source.Source.{Source}
 use Rattle.bank_tool.specs.Source.{front_in, manifest_in, rule_of, source_of}
+use Rattle.bank_tool.specs.Stored.{IsStored}
 
 -- a value for each element, or the first refusal
 unfoldable pub each_of : {X Y E : Type 0} → (X → Result Y E) → List X → Result (List Y) E
@@ -78,11 +78,11 @@ compile_course files manifest = then_read (tested_reading manifest (meaning_in f
 abbrev pub IsMadeOf : Kind → Source → SampleOut → Type 0
 IsMadeOf kind source out = IsCompiled kind source.name source.rate source.fitted out
 
--- the stored files replay each source with the error that the report gives
-abbrev pub AllReplay : List Source → List SampleOut → List NamedFile → Type 0
-AllReplay sources outs writes = (j : ℕ) (source : Source) (out : SampleOut) (image first : NamedFile)
+-- the image and each first pass are what the report says of each source
+abbrev pub AllStored : List Source → List SampleOut → List NamedFile → Type 0
+AllStored sources outs writes = (j : ℕ) (source : Source) (out : SampleOut) (image first : NamedFile)
     → slice_get sources j ≡ Some source → slice_get outs j ≡ Some out → slice_get writes 0 ≡ Some image → slice_get writes (suc j) ≡ Some first
-    → Replays image.bytes first.bytes j source.rate source.fitted out.report.error
+    → IsStored image.bytes first.bytes j source out.report
 
 -- what is stored and said for these sources: some blocks are chosen for each, and all else is made of them
 pub record IsBank (m : Content) (sources : List Source) (writes : List NamedFile) (line : List ℕ) : Type 0 where
@@ -90,8 +90,7 @@ pub record IsBank (m : Content) (sources : List Source) (writes : List NamedFile
   pub made : AllZip (IsMadeOf m.kind) sources outs
   pub files : bank_of m.bank m.base outs ≡ Ok writes
   pub told : line ≡ report_text outs
-  -- the image plays each source, in whole blocks, as its first pass sounds, with the error that is told
-  pub replays : AllReplay sources outs writes
+  pub stored : AllStored sources outs writes
 
 abbrev pub bank_choice : Files → Content → Choice
 bank_choice files m = λ writes line. (sources : List Source) × (sources_in files m ≡ Ok sources) × IsBank m sources writes line

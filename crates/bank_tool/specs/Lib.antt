@@ -8,3 +8,5 @@ pub mod Commands
 pub mod Source
 pub mod Ready
 pub mod Compile
+pub mod Stored
+pub mod Compiled

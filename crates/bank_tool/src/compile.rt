@@ -1,12 +1,12 @@
-ghost use Rattle.std.specs.Prelude.{◌≡◌, ◌≢◌, ◌≤◌, ℕ, List, true, false, Some};
-ghost use Rattle.adpcm_nums.specs.Outcome.{Tells};
+ghost use Rattle.std.specs.Prelude.{◌≡◌, ◌≢◌, ◌≤◌, true, Some};
 ghost use Rattle.host_files.specs.Outside.{Files, Rose};
 ghost use Rattle.machine_core.specs.declared.state.Kind.TheVariants.{Brr};
 ghost use Rattle.manifest_reader.specs.Meaning.{content_of};
 ghost use Rattle.manifest_reader.specs.Ranges.{InRanges};
 ghost use Rattle.command_plan.specs.Ending.{is_device};
-ghost use Rattle.command_plan.specs.Promise.{Reaches, Promises, Finishes};
+ghost use Rattle.command_plan.specs.Promise.{Reaches, Promises};
 ghost use Rattle.bank_tool.specs.Compile.{bank_course, bank_choice, compile_course, compile_choice};
+ghost use Rattle.bank_tool.specs.Compiled.{AnswersCompile};
 
 use crate::fetch_bank::fetch_sources;
 use crate::fetch_manifest::fetch_manifest;
@@ -25,12 +25,10 @@ pub fn run_compile<H: Host>(alloc: Global, host: &mut H, manifest: &str) -> Stat
     // How the world stands, whatever the host did.
     ensures told { (files : Files) → (H.world host.old).files ≡ Some files →
         Promises (compile_course files manifest.now) (compile_choice files manifest.now) (H.world host.old) (H.world host.new) result }
-    // At `Done` the files of some choice of blocks were stored, and its report said.
-    ensures done { (files : Files) → (H.world host.old).files ≡ Some files → result ≡ Status.Done →
-        Finishes (compile_course files manifest.now) (compile_choice files manifest.now) (H.world host.old) (H.world host.new) }
-    // Where the host does not fail, the answer is the one of the course, unless there was no memory.
-    ensures course { (files : Files) → (H.world host.old).files ≡ Some files → is_device result ≡ false →
-        Tells Status.Memory result (compile_course files manifest.now).outcome }
+    // In the command's own words: at `Done` the bank plays, the told errors are exact, and the told bounds hold; where the
+    // host does not fail, the manifest, the sources and their room decide how it ends.
+    ensures answer { (files : Files) → (H.world host.old).files ≡ Some files →
+        AnswersCompile files manifest.now (H.world host.old) (H.world host.new) result }
     // These hold of a host that tells nothing, too.
     ensures words { result ≢ Status.Words }
     ensures device { is_device result ≡ true → Rose (H.world host.old).faults (H.world host.new).faults }

@@ -9,7 +9,7 @@ ghost use Rattle.bank_tool.specs.Ready.{IsReady};
 use crate::source::Source;
 use adpcm_nums::{NoMemory, Text};
 use bank_compile::{
-    NamedFile, SampleOut, compile_bank, compile_sample, report, stored_bank_replays,
+    NamedFile, SampleOut, bound_holds, compile_bank, compile_sample, report, stored_bank_replays,
 };
 use manifest_reader::Manifest;
 use std::alloc::Global;
@@ -63,6 +63,7 @@ pub(crate) fn form_bank(
     ensures { IfOk result (λ r. IsBank (content_of manifest.now) sources.items r.0.items r.1) }
 {
     stored_bank_replays();
+    bound_holds();
     let outs = compile_all(alloc, manifest, sources)?;
     let line = report(alloc, outs.as_slice())?;
     match compile_bank(alloc, manifest, outs.as_slice()) {

@@ -6,6 +6,7 @@ ghost use Rattle.command_plan.specs.Ending.{is_device};
 ghost use Rattle.command_plan.specs.Promise.{Promises, Finishes};
 ghost use Rattle.bank_tool.specs.Words.{command_of};
 ghost use Rattle.bank_tool.specs.Block.{AnswersBlock};
+ghost use Rattle.bank_tool.specs.Compiled.{AnswersCompile};
 ghost use Rattle.bank_tool.specs.Play.{AnswersPlay};
 ghost use Rattle.bank_tool.specs.PlayWords.{PlaysBrr};
 ghost use Rattle.bank_tool.specs.Commands.{course_of, choice_of};
@@ -32,6 +33,10 @@ pub fn run<H: Host>(alloc: Global, host: &mut H, words: &[String]) -> Status
     // What that says of `block` in its own words.
     ensures block { (files : Files) (input output : List ℕ) → (H.world host.old).files ≡ Some files → command_of (map string_bytes words.now) ≡ Some (Command.Block input output) →
         AnswersBlock files input output (H.world host.old) (H.world host.new) result }
+    // What it says of `compile`: the stored bank plays as its first passes sound, the told errors are exact, no list of
+    // blocks that may be stored has an error below a told bound, and a told gap of 0 means that none has a smaller error.
+    ensures compile { (files : Files) (manifest : List ℕ) → (H.world host.old).files ≡ Some files → command_of (map string_bytes words.now) ≡ Some (Command.Compile manifest) →
+        AnswersCompile files manifest (H.world host.old) (H.world host.new) result }
     // And what it says of `play`.
     ensures play { (files : Files) (kind : Kind) (file : List ℕ) (entry count : ℕ) → (H.world host.old).files ≡ Some files → command_of (map string_bytes words.now) ≡ Some (Command.Play kind file entry count) →
         AnswersPlay files file entry count (H.world host.old) (H.world host.new) result }

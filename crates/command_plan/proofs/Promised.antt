@@ -50,6 +50,19 @@ ends_written c May names ws line a m b s h may same r =
       comes_moved c.calls (writing ws line) a m b s h.quiet r,
     )
 
+-- a part of it was read, and the rest came to a status
+pub reaches_next : (c d : Reading) (May : Choice) (a m b : World) (s : Status) → HasRead c a m → Reaches d May m b s → Reaches (then_read c d) May a b s
+reaches_next c d May a m b s h r =
+    let done = then_read-done c d h.outcome in (
+      moved c.calls r.0,
+      record {
+        calls = ap (λ (xs : List HostCall). c.calls ++ xs) r.1.calls ∙ sym (ap (λ (x : Reading). x.calls) done);
+        outcome = r.1.outcome ∙ sym (ap (λ (x : Reading). x.outcome) done);
+        choice = r.1.choice;
+      },
+      comes_moved c.calls r.0 a m b s h.quiet r.2,
+    )
+
 -- the plan stays one where there was no memory for the line of its status
 kept : (c : Reading) (May : Choice) (s r : Status) (p : Plan) → Tells Memory r s → IsPlanOf c May s p → IsPlanOf c May r p
 kept c May s r p one is = either (λ (t : Status). IsPlanOf c May t p) r s one is (record {

@@ -1,8 +1,9 @@
 -- Readings one after another, and before the writing.
-use Rattle.std.proofs.Common.{◌≡◌, ℕ, ◌+◌, ◌≤◌, List, [], ◌++◌, length, refl, sym, ap, subst, ◌∙◌, arith, inl, true, false, cond, Option, append-nil, Result, Ok, Err}
+use Rattle.std.proofs.Common.{◌≡◌, ℕ, ◌+◌, ◌≤◌, List, [], ◌++◌, length, refl, sym, ap, subst, ◌∙◌, arith, inl, inr, true, false, cond, Option, append-nil, Result, Ok, Err}
+use Rattle.std.proofs.lemmas.Bool.{cases_Bool}
 use Rattle.host_files.specs.Outside.{World, Files, grown}
 use Rattle.command_plan.specs.declared.status.Status.{Status}
-use Rattle.command_plan.specs.declared.status.Status.TheVariants.{Done, Memory}
+use Rattle.command_plan.specs.declared.status.Status.TheVariants.{Done, Words, Manifest, Input, Unfit, Full, Device, Memory}
 use Rattle.command_plan.specs.declared.status.HostCall.{HostCall}
 use Rattle.command_plan.specs.declared.status.HostCall.TheVariants.{Fetch, Store, Say}
 use Rattle.command_plan.specs.Ending.{Ending, Finished, Declined, Broken, Starved, ending_of, is_finished, is_early}
@@ -21,6 +22,23 @@ then_read-goes c d e = rw e refl
 
 pub then_read-done : (c d : Reading) → c.outcome ≡ Done → then_read c d ≡ record { calls = c.calls ++ d.calls; outcome = d.outcome }
 then_read-done c d e = then_read-goes c d (ap (λ (s : Status). is_finished (ending_of s)) e)
+
+finished : (s : Status) → is_finished (ending_of s) ≡ true → s ≡ Done
+finished Done h = refl
+finished Words h = cc
+finished (Manifest fault) h = cc
+finished (Input name fault) h = cc
+finished (Unfit name fault) h = cc
+finished (Full bank total) h = cc
+finished (Device at) h = cc
+finished Memory h = cc
+
+-- where all of it comes to `Done`, the first part does
+pub first_done : (c d : Reading) → (then_read c d).outcome ≡ Done → c.outcome ≡ Done
+first_done c d e = elim (cases_Bool (goes_on c)) [
+  | inl h ↦ finished c.outcome h
+  | inr h ↦ sym (ap (λ (x : Reading). x.outcome) (then_read-declined c d h)) ∙ e
+]
 
 waits_on : (n m : ℕ) (a b d : World) → Waits n a b → Waits m b d → Waits (n + m) a d
 waits_on n m a b d w v = record {

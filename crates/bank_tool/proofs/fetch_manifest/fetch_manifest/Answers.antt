@@ -4,7 +4,8 @@ use Rattle.manifest_reader.specs.Meaning.{content_of}
 use Rattle.command_plan.specs.declared.status.Status.TheVariants.{Memory}
 use Rattle.bank_tool.specs.Source.{front_in, manifest_in}
 use Rattle.bank_tool.specs.Compile.{meaning_in}
-use Rattle.bank_tool.proofs.SourceSteps.{tested, manifest-declines, is_front}
+use Rattle.command_plan.proofs.Tested.{tested}
+use Rattle.bank_tool.proofs.SourceSteps.{manifest-declines, is_front}
 use Rattle.bank_tool.proofs.fetch_manifest.fetch_manifest.Goals as goal
 
 pub returns-clause-told : goal.returns-clause-told

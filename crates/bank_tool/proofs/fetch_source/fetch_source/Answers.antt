@@ -3,10 +3,10 @@ use Rattle.adpcm_nums.specs.Outcome.{Gives}
 use Rattle.command_plan.specs.declared.status.Status.TheVariants.{Memory}
 use Rattle.command_plan.specs.Reading.{fetched, tested_reading}
 use Rattle.command_plan.specs.Steps.{HasRead, Halts}
-use Rattle.command_plan.proofs.Tested.{tested_first}
+use Rattle.command_plan.proofs.Tested.{tested_first, tested}
 use Rattle.bank_tool.specs.Source.{front_in, source_of}
 use Rattle.bank_tool.specs.Compile.{source_in}
-use Rattle.bank_tool.proofs.SourceSteps.{tested, source-declines, is_front}
+use Rattle.bank_tool.proofs.SourceSteps.{source-declines, is_front}
 use Rattle.bank_tool.proofs.fetch_source.fetch_source.Goals as goal
 
 pub returns-in-Err-clause-told : goal.returns-in-Err-clause-told

@@ -1,9 +1,11 @@
-use Rattle.std.proofs.Common.{◌≡◌, ◌≤◌, ap, sym, ◌∙◌, List, arith, length, Ok}
+use Rattle.std.proofs.Common.{◌≡◌, ◌≤◌, ap, sym, subst, ◌∙◌, List, arith, length, Ok}
 use Rattle.bank_compile.specs.declared.sample.SampleOut.{SampleOut}
 use Rattle.bank_compile.specs.Bank.{bank_of}
 use Rattle.bank_compile.specs.Told.{report_text}
+use Rattle.bank_compile.specs.Bound.{IsBound}
 use Rattle.bank_tool.specs.Compile.{IsMadeOf}
-use Rattle.bank_tool.proofs.BankSteps.{zip_at}
+use Rattle.bank_tool.specs.Ready.{IsReady}
+use Rattle.bank_tool.proofs.BankSteps.{zip_at, all_at, stored_sample}
 use Rattle.bank_tool.proofs.form_bank.form_bank.Goals as goal
 
 pub returns-in-Ok : goal.returns-in-Ok
@@ -16,8 +18,11 @@ returns-in-Ok c =
       made = c.in_ok-outs.ensures.made;
       files = files;
       told = c.in_ok-line.ensures ∙ ap (λ (os : List SampleOut). report_text os) c.as_slice.ensures.value;
-      replays = λ j source out image first s o i f.
-          c.stored_bank_replays.ensures c.args.manifest.now.bank c.args.manifest.now.base c.in_ok-outs.outs.items c.in-Ok.files.items image first j out c.args.manifest.now.kind source.name source.rate source.fitted
-          c.requires.base few c.in_ok-outs.ensures.outs files o
-          (zip_at (IsMadeOf c.args.manifest.now.kind) c.args.sources.items c.in_ok-outs.outs.items j source out c.in_ok-outs.ensures.made s o) i f;
+      stored = λ j source out image first s o i f.
+          let made = zip_at (IsMadeOf c.args.manifest.now.kind) c.args.sources.items c.in_ok-outs.outs.items j source out c.in_ok-outs.ensures.made s o in
+          let ready = all_at IsReady c.args.sources.items j source c.requires.ready s in
+          stored_sample image.bytes first.bytes j source out.report
+          (c.stored_bank_replays.ensures c.args.manifest.now.bank c.args.manifest.now.base c.in_ok-outs.outs.items c.in-Ok.files.items image first j out c.args.manifest.now.kind source.name source.rate source.fitted
+          c.requires.base few c.in_ok-outs.ensures.outs files o made i f)
+          (subst (IsBound source.fitted) (sym (ap (λ (x : SampleOut). x.report.bound) made.made)) (c.bound_holds.ensures source.fitted ready.fit));
     }

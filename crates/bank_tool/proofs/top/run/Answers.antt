@@ -1,6 +1,6 @@
 use Rattle.std.proofs.Common.{sym, ◌∙◌, Some}
 use Rattle.command_plan.proofs.Promised.{short_for_words}
-use Rattle.bank_tool.proofs.CommandSteps.{no_command, block_answers, play_answers}
+use Rattle.bank_tool.proofs.CommandSteps.{no_command, block_answers, compile_answers, play_answers}
 use Rattle.bank_tool.proofs.top.run.Goals as goal
 
 pub returns-in-Err-clause-told : goal.returns-in-Err-clause-told
@@ -13,6 +13,10 @@ returns-in-Ok-None-clause-told g c = λ files told.
 pub returns-in-Ok-Some-clause-block : goal.returns-in-Ok-Some-clause-block
 returns-in-Ok-Some-clause-block g c = λ files input output told is.
     block_answers (Some c.in-Ok-Some.command) files input output (g.H.Host.world c.args.host.now) (g.H.Host.world c.obey.new.host) c.obey.result (sym c.in-Ok-Some.field-0-is ∙ c.in-Ok-Some.ensures.value ∙ is) (c.obey.ensures.told files told)
+
+pub returns-in-Ok-Some-clause-compile : goal.returns-in-Ok-Some-clause-compile
+returns-in-Ok-Some-clause-compile g c = λ files manifest told is.
+    compile_answers (Some c.in-Ok-Some.command) files manifest (g.H.Host.world c.args.host.now) (g.H.Host.world c.obey.new.host) c.obey.result (sym c.in-Ok-Some.field-0-is ∙ c.in-Ok-Some.ensures.value ∙ is) (c.obey.ensures.told files told)
 
 pub returns-in-Ok-Some-clause-play : goal.returns-in-Ok-Some-clause-play
 returns-in-Ok-Some-clause-play g c = λ files kind file entry count told is.

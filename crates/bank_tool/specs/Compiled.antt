@@ -1,0 +1,36 @@
+-- What `compile` answers, in its own words.
+use Rattle.std.specs.Prelude.{false, ◌≡◌, ℕ, ◌+◌, ◌*◌, List, length, Ok}
+use Rattle.adpcm_nums.specs.Outcome.{Tells}
+use Rattle.host_files.specs.Outside.{World, Files, grown, raised}
+use Rattle.host_files.specs.declared.named_file.NamedFile.{NamedFile}
+use Rattle.manifest_reader.specs.Meaning.{Content}
+use Rattle.command_plan.specs.declared.status.Status.{Status}
+use Rattle.command_plan.specs.declared.status.Status.TheVariants.{Done, Memory}
+use Rattle.command_plan.specs.Ending.{is_device}
+use Rattle.command_plan.specs.Plan.{names_in, all_stored}
+use Rattle.bank_tool.specs.declared.source.Source.{Source}
+use Rattle.bank_tool.specs.Compile.{meaning_in, sources_in, bank_names, IsBank, compile_course}
+
+-- what `compile` has done where it ends well; `held` are the files before
+pub record HasCompiled (held : Files) (manifest : List ℕ) (a b : World) : Type 0 where
+  -- what the manifest says, and the sources that it names, fitted to blocks
+  pub content : Content
+  pub meaning : meaning_in held manifest ≡ Ok content
+  pub sources : List Source
+  pub read : sources_in held content ≡ Ok sources
+  -- a bank of these sources was made: its image plays each of them, the told errors are exact, and the told bounds hold
+  pub writes : List NamedFile
+  pub line : List ℕ
+  pub bank : IsBank content sources writes line
+  -- exactly its files were set, and exactly its report was said
+  pub names : names_in writes ≡ bank_names content
+  pub files : b.files ≡ all_stored a.files writes
+  pub said : b.said ≡ grown a.said line
+  -- the manifest and each source were fetched, the image and each first pass stored, and one line said
+  pub calls : b.calls ≡ raised (2 * length content.samples + 3) a.calls
+
+-- what `compile` answers: r is the answer, from a to b
+pub record AnswersCompile (held : Files) (manifest : List ℕ) (a b : World) (r : Status) : Type 0 where
+  pub done : r ≡ Done → HasCompiled held manifest a b
+  -- where the host does not fail, the manifest, the sources and the room for them decide, unless there was no memory
+  pub outcome : is_device r ≡ false → Tells Memory r (compile_course held manifest).outcome

@@ -50,6 +50,8 @@ fn push_block<M: Machine>(
 
 /// The choice of the beam of width 1: block after block, the first head of least cost among those that the rule allows,
 /// and at each place the first symbol of least cost (this project's own choice).
+// It is kept apart so that a profile can tell its cost from that of the floors.
+#[inline(never)]
 pub(crate) fn greedy<M: Machine>(
     alloc: Global,
     machine: &M,

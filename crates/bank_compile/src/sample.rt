@@ -53,6 +53,8 @@ fn segment_count(alloc: Global, kind: Kind, fitted: &Fitted) -> Result<u32, NoMe
 }
 
 /// The floor under the error of every list of blocks that may be stored for a fitted sound.
+// It is kept apart so that a profile can tell its cost from that of the choice of blocks.
+#[inline(never)]
 #[tactic(auto, unfolding(crate::specs::Sample::bound_of))]
 fn bound(fitted: &Fitted) -> u64
     requires { IsBrrFit fitted.now }

@@ -12,7 +12,7 @@ PREFIX ?= /usr/local
 
 SOURCES := crates.txt $(shell find crates -path '*/out' -prune -o -type f \( -name '*.rt' -o -name '*.antt' \) -print)
 
-.PHONY: all demo test bench install clean
+.PHONY: all demo test compare bench install clean
 
 all: build/adbank
 
@@ -43,6 +43,10 @@ demo: build/adbank
 # How long the built program takes on generated inputs, as a table.
 bench: build/adbank
 	@python3 bench/run.py
+
+# Whole banks, byte for byte beside those of a plain compiler that shares nothing with this one.
+compare: build/adbank
+	@python3 -B tests/outside/brr_bank.py build/adbank
 
 # The merge gate: the proofs, the edits that must be refused, the tests and the program's run.
 test:

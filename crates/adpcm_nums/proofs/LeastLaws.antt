@@ -1,5 +1,5 @@
 -- Laws of the first least place.
-use Rattle.std.proofs.Common.{◌≡◌, ℕ, zero, suc, ◌+◌, ◌<◌, ◌≤◌, nat_lt, add-one, if◌then◌else◌, true, false, refl, subst, ap, ◌∙◌, arith, inl, inr}
+use Rattle.std.proofs.Common.{◌≡◌, ℕ, zero, suc, ◌+◌, ◌<◌, ◌≤◌, nat_lt, add-one, if◌then◌else◌, refl, subst, ap, ◌∙◌, arith, inl, inr}
 use Rattle.std.proofs.lemmas.Bool.{cases_lt, cases_order, ltb-true, ltb-false, cond_both}
 use Rattle.adpcm_nums.specs.Least.{IsFirstLeast, first_least}
 

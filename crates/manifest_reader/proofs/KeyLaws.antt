@@ -1,7 +1,7 @@
 -- The keys of a table, as the code goes over them.
-use Rattle.std.proofs.Common.{◌≡◌, ◌||◌, ℕ, Bool, true, false, cond, Ok, Err, List, [], ◌∷◌, map, String, Global, Bor, string_bytes, refl, sym, ap, ◌∙◌, Result}
+use Rattle.std.proofs.Common.{◌≡◌, ◌||◌, ℕ, Bool, true, false, Ok, Err, List, [], ◌∷◌, map, String, Global, Bor, string_bytes, refl, sym, ap, ◌∙◌, Result}
 use Rattle.std.specs.Prelude.{⊤, if◌then◌else◌}
-use Rattle.std.proofs.Common.{Option, Some, None, Ordering, Less, Equal, Greater, nat_cmp, inl, inr}
+use Rattle.std.proofs.Common.{Option, Some, None, Less, Greater, nat_cmp, inl, inr}
 use Rattle.std.proofs.lemmas.Bool.{cases_Bool}
 use Rattle.std.proofs.lemmas.Cmp.{nat_list_cmp_total}
 use Rattle.std.specs.Ordering.{is_lt, ordering_reverse}

@@ -1,9 +1,9 @@
 -- The names of samples and files, as the code goes over them.
-use Rattle.std.proofs.Common.{◌≡◌, ℕ, ◌+◌, ◌<◌, ◌≤◌, Bool, true, false, List, [], ◌∷◌, ◌++◌, length, take, drop, get_or, Result, Ok, Err, refl, sym, ap, ◌∙◌}
+use Rattle.std.proofs.Common.{◌≡◌, ℕ, ◌+◌, ◌<◌, true, false, List, [], ◌∷◌, ◌++◌, length, take, drop, get_or, Result, Ok, Err, refl, sym, ap, ◌∙◌}
 use Rattle.std.specs.Prelude.{⊤}
-use Rattle.std.specs.List.{list_any, flat_map}
+use Rattle.std.specs.List.{list_any}
 use Rattle.std.specs.Str.{bytes_eq}
-use Rattle.std.proofs.lemmas.List.{drop_more, take_more, drop_all, take_all}
+use Rattle.std.proofs.lemmas.List.{drop_more, take_more}
 use Rattle.manifest_reader.specs.declared.fault.ManifestFault.{ManifestFault}
 use Rattle.manifest_reader.specs.declared.fault.ManifestFault.TheVariants.{SameName, Clash}
 use Rattle.manifest_reader.specs.declared.manifest.SampleEntry.{SampleEntry}

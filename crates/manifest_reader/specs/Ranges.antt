@@ -5,7 +5,6 @@ use Rattle.std.specs.Str.{bytes_eq}
 use Rattle.manifest_reader.specs.declared.manifest.SampleEntry.{SampleEntry}
 use Rattle.manifest_reader.specs.Words.{is_bank, is_name, is_file}
 use Rattle.manifest_reader.specs.Keys.{is_among}
-use Rattle.manifest_reader.specs.Stored.{stored_names}
 use Rattle.manifest_reader.specs.Meaning.{Content}
 
 -- a multiple of step in low..high

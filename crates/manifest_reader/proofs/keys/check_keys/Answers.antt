@@ -1,8 +1,6 @@
 use Rattle.std.proofs.Common.{inr, true, false, map, string_bytes, Err, sym, ap, ◌∙◌}
 use Rattle.std.proofs.lemmas.Map.Iter.{rest_more, rest_all}
 use Rattle.std.specs.Map.Iter.{deref}
-use Rattle.toml.specs.View.{table_view}
-use Rattle.manifest_reader.specs.Keys.{keys_of}
 use Rattle.manifest_reader.specs.declared.fault.ManifestFault.TheVariants.{UnknownKey}
 use Rattle.manifest_reader.proofs.KeyLaws.{check_each, checked, keys_seen, among_is, check_on, check_stops, check_ends}
 use Rattle.manifest_reader.proofs.keys.check_keys.Goals as goal

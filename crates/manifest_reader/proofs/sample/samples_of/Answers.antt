@@ -1,7 +1,6 @@
-use Rattle.std.proofs.Common.{◌+◌, drop, ◌++◌, ◌∷◌, []}
 use Rattle.std.proofs.lemmas.Result.{err_from_is_err_and}
 use Rattle.std.proofs.lemmas.List.Elements.{All-push}
-use Rattle.toml.specs.View.{view, items_view}
+use Rattle.toml.specs.View.{view}
 use Rattle.manifest_reader.specs.Ranges.{IsEntry}
 use Rattle.manifest_reader.proofs.Rows.{one_more, goes_on, ends, is_done, left_at, left_none}
 use Rattle.manifest_reader.proofs.sample.samples_of.Goals as goal

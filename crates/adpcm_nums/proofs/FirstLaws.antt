@@ -14,6 +14,7 @@ first-suc : (passes : ℕ → Bool) (n : ℕ) → first_where passes (suc n) ≡
 unfolding first_where
 first-suc passes n = refl
 
+-- of no numbers none is found
 pub none_at_zero : (passes : ℕ → Bool) → first_where passes 0 ≡ None
 unfolding first_where
 none_at_zero passes = refl

@@ -52,6 +52,7 @@ near-one lo hi q t y n a b c e =
       ]
     ]
 
+-- a number divided by 1 is itself
 pub floored_one : (t : ℤ) → floor_of t 1 ≡ t
 floored_one t = let l = floor-low t 1 (omega arith) in let h = floor-high t 1 (omega arith) in omega (arith, ints)
 

@@ -9,6 +9,7 @@ use Rattle.adpcm_nums.specs.Sample.{IsSample}
 use Rattle.adpcm_nums.specs.Nearest.{within_of, nearest_of, distance_of, distance_sq_of}
 use Rattle.adpcm_nums.proofs.NearestLaws.{distance-least}
 
+-- no multiple of a number of the span has a smaller square distance
 pub distance_sq-least : (lo hi scale t y : ℤ) → (scale ≡ pos 1) ⊎ (scale ≡ pos 2) → lo ≤ℤ y → y ≤ℤ hi → distance_sq_of lo hi scale t ≤ square_of (scale *ℤ y -ℤ t)
 distance_sq-least lo hi scale t y s a b = let h = distance-least lo hi scale t y s a b in mul-le-mul h h
 
@@ -18,6 +19,7 @@ within-low lo hi x h = grind (arith, ints)
 within-high : (lo hi x : ℤ) → lo ≤ℤ hi → within_of lo hi x ≤ℤ hi
 within-high lo hi x h = grind (arith, ints)
 
+-- and that of some such multiple is as small
 pub distance_sq-reached : (lo hi scale t : ℤ) → lo ≤ℤ hi → (y : ℤ) × (lo ≤ℤ y) × (y ≤ℤ hi) × (distance_sq_of lo hi scale t ≡ square_of (scale *ℤ y -ℤ t))
 distance_sq-reached lo hi scale t h = (nearest_of lo hi scale t, within-low lo hi _ h, within-high lo hi _ h, refl)
 
@@ -25,11 +27,12 @@ distance_sq-reached lo hi scale t h = (nearest_of lo hi scale t, within-low lo h
 pub distance_sq-is : (lo hi scale t lo' hi' scale' t' : ℤ) (n : ℕ) → lo' ≡ lo → hi' ≡ hi → scale' ≡ scale → t' ≡ t → n ≡ distance_of lo' hi' scale' t' → n * n ≡ distance_sq_of lo hi scale t
 distance_sq-is lo hi scale t lo' hi' scale' t' n a b d e h = rw (h, a, b, d, e) refl
 
--- it is far below the largest u64
+-- a multiple of a sample lies near every sample
 near-sample : (scale y t : ℤ) → (scale ≡ pos 1) ⊎ (scale ≡ pos 2) → IsSample y → IsSample t → unsigned_abs (scale *ℤ y -ℤ t) ≤ 2 ^ 17
 near-sample scale y t (inl e) a b = let al = a.low in let ah = a.high in let bl = b.low in let bh = b.high in rw e (omega (arith, ints))
 near-sample scale y t (inr e) a b = let al = a.low in let ah = a.high in let bl = b.low in let bh = b.high in rw e (omega (arith, ints))
 
+-- so the least square distance is far below the largest u64
 pub distance_sq-small : (lo hi scale t : ℤ) → (scale ≡ pos 1) ⊎ (scale ≡ pos 2) → lo ≤ℤ hi → IsSample lo → IsSample t → distance_sq_of lo hi scale t ≤ 2 ^ 34
 distance_sq-small lo hi scale t s h a b =
     let near = near-sample scale lo t s a b in

@@ -1,6 +1,7 @@
 -- The first number that passes a test.
 use Rattle.std.specs.Prelude.{ℕ, zero, suc, Bool, if◌then◌else◌, Option, Some, None}
 
+-- the number that was found early, or else the one found later
 abbrev pub or_first : Option ℕ → Option ℕ → Option ℕ
 or_first (Some k) later = Some k
 or_first None later = later

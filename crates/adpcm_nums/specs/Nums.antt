@@ -15,5 +15,6 @@ clamp16_of x = int_max (negsuc 32767) (int_min x (pos 32767))
 abbrev pub wrap15_of : ℤ → ℤ
 wrap15_of x = int_rem_euclid (x +ℤ pos 16384) (pos 32768) -ℤ pos 16384
 
+-- the square of a number, in which errors are counted
 abbrev pub square_of : ℤ → ℕ
 square_of x = unsigned_abs x * unsigned_abs x

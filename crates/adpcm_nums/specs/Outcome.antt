@@ -1,8 +1,8 @@
 -- Reading that stops at the first fault, and what a function of the code has to do with it.
 use Rattle.std.specs.Prelude.{◌≡◌, ◌⊎◌, Result, Ok, Err}
 
--- go on with what was read, or stop at the fault
 infixl 10 ◌>>=◌
+-- go on with what was read, or stop at the fault
 abbrev pub ◌>>=◌ : {A B E : Type 0} → Result A E → (A → Result B E) → Result B E
 (Ok x) >>= f = f x
 (Err e) >>= f = Err e

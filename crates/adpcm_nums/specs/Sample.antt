@@ -6,5 +6,6 @@ pub record IsSample (x : ℤ) : Type 0 where
   pub low : negsuc 32767 ≤ℤ x
   pub high : x ≤ℤ pos 32767
 
+-- each number of a list is one
 abbrev pub AreSamples : List ℤ → Type 0
 AreSamples xs = All IsSample xs

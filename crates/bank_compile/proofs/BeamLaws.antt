@@ -20,11 +20,13 @@ beam_sum d loop_block targets (suc b) =
 abbrev state_in : Decoder → Option ℕ → List ℤ → ℕ → ℕ → State
 state_in d loop_block targets b p = near_state d (beam_head d loop_block targets b) (targets_in d targets b) (beam_state d loop_block targets b) p
 
+-- the list holds the beam's head of each block
 pub head-in : (d : Decoder) (loop_block : Option ℕ) (targets : List ℤ) (blocks b : ℕ) → b < blocks
     → get_or (beam_list d loop_block targets blocks).heads b 0 ≡ beam_head d loop_block targets b
 unfolding beam_list
 head-in d loop_block targets blocks b below = get_or-map-range_with_len (beam_head d loop_block targets) 0 blocks b b 0 below (omega arith)
 
+-- and the beam's symbol at each place of a block
 pub symbol-in : (d : Decoder) (loop_block : Option ℕ) (targets : List ℤ) (blocks b p i : ℕ) → i ≡ b * d.samples + p → b < blocks → p < d.samples
     → symbol_at (beam_list d loop_block targets blocks) i ≡ beam_symbol d loop_block targets b p
 unfolding beam_list
@@ -35,11 +37,13 @@ symbol-in d loop_block targets blocks b p i e below within =
     get_or-map-range_with_len (λ k. beam_symbol d loop_block targets (k / d.samples) (k % d.samples)) 0 (blocks * d.samples) i i 0 (omega arith) (omega arith)
     ∙ (ap (λ z. beam_symbol d loop_block targets z (i % d.samples)) block ∙ ap (beam_symbol d loop_block targets b) place)
 
+-- each sample is under the beam's head of its block
 pub head-of : (d : Decoder) (loop_block : Option ℕ) (targets : List ℤ) (blocks b p i : ℕ) → i ≡ b * d.samples + p → b < blocks → p < d.samples
     → head_at d (beam_list d loop_block targets blocks) i ≡ beam_head d loop_block targets b
 head-of d loop_block targets blocks b p i e below within =
     ap (λ z. get_or (beam_list d loop_block targets blocks).heads z 0) (block-of b d.samples p i e within) ∙ head-in d loop_block targets blocks b below
 
+-- a block's target is the list's
 pub target-in : (d : Decoder) (targets : List ℤ) (b p i : ℕ) → i ≡ b * d.samples + p → p < d.samples → get_or (targets_in d targets b) p (pos 0) ≡ get_or targets i (pos 0)
 target-in d targets b p i e within = get_or-part targets (b * d.samples) d.samples p (pos 0) within ∙ ap (λ z. get_or targets z (pos 0)) (sym e)
 
@@ -76,6 +80,7 @@ cost-in d loop_block targets blocks b p i e below within =
     let target = target-in d targets b p i e within in
     ap (λ s. cost_of d s (get_or targets i (pos 0))) state ∙ ap (cost_of d (state_in d loop_block targets b (suc p))) (sym target)
 
+-- what stands before place p of block b costs what the blocks before it and its first p places cost
 pub sums-in : (d : Decoder) (loop_block : Option ℕ) (targets : List ℤ) (blocks b : ℕ) → b < blocks
     → sum_from d (beam_list d loop_block targets blocks) targets 0 (b * d.samples) ≡ beam_sum d loop_block targets b
     → (p i : ℕ) → i ≡ b * d.samples + p → p ≤ d.samples

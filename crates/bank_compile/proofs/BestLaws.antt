@@ -11,6 +11,7 @@ pub record IsBest (f : ℕ → ℕ) (n best least : ℕ) : Type 0 where
   pub some : 0 < n → IsFirstLeast f n best
   pub value : 0 < n → least ≡ f best
 
+-- of no numbers nothing is found
 pub best_none : (f : ℕ → ℕ) → IsBest f 0 0 top
 best_none f = record { none = λ _. (refl, refl); some = λ h. absurd (omega arith); value = λ h. absurd (omega arith) }
 

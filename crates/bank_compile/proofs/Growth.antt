@@ -37,6 +37,7 @@ pub record IsBeam (d : Decoder) (loop_block : Option ℕ) (targets : List ℤ) (
   pub state : at ≡ beam_state d loop_block targets b
   pub sum : cost ≡ beam_sum d loop_block targets b
 
+-- no block so far
 pub beam_none : (d : Decoder) (loop_block : Option ℕ) (targets : List ℤ) → IsBeam d loop_block targets 0 [] [] start 0
 unfolding beam_state beam_sum
 beam_none d loop_block targets = record {
@@ -79,7 +80,7 @@ beam_sum-small r laws loop_block targets blocks (suc b) are below =
     (best_head-fits r laws (rule_of loop_block b) (targets_in r.decoder targets b) from) (omega arith) (block-is r.decoder targets blocks b are below) (beam_state-fits r laws loop_block targets b) in
     omega (arith, before, here)
 
--- all blocks are the beam's list, with its error
+-- all blocks are the beam's list
 pub beam-all : (d : Decoder) (loop_block : Option ℕ) (targets : List ℤ) (b blocks : ℕ) (heads symbols : List ℕ) (at : State) (cost : ℕ)
     → IsBeam d loop_block targets b heads symbols at cost → b ≡ blocks → (record { heads = heads; symbols = symbols }) ≡ beam_list d loop_block targets blocks
 unfolding beam_list
@@ -89,6 +90,7 @@ beam-all d loop_block targets b blocks heads symbols at cost beam all =
     (map (λ i. beam_symbol d loop_block targets (i / d.samples) (i % d.samples)) (range_with_len 0 (n * d.samples))) in
     ap (λ hs. listed hs symbols) beam.heads_are ∙ (ap (λ ss. listed (map (beam_head d loop_block targets) (range_with_len 0 b)) ss) beam.symbols_are ∙ ap through all)
 
+-- and their cost is its error
 pub beam-sum : (d : Decoder) (loop_block : Option ℕ) (targets : List ℤ) (b blocks : ℕ) (heads symbols : List ℕ) (at : State) (cost : ℕ)
     → IsBeam d loop_block targets b heads symbols at cost → b ≡ blocks → cost ≡ sum_of d (record { heads = heads; symbols = symbols }) targets blocks
 beam-sum d loop_block targets b blocks heads symbols at cost beam all =

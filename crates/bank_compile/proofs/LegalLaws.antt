@@ -65,6 +65,7 @@ beam_state-fits r laws loop_block targets (suc b) =
     near_state-fits r laws _ (targets_in r.decoder targets b) (beam_state r.decoder loop_block targets b) r.decoder.samples
     (best_head-fits r laws (rule_of loop_block b) (targets_in r.decoder targets b) (beam_state r.decoder loop_block targets b)) (omega arith) (beam_state-fits r laws loop_block targets b)
 
+-- so the beam's list is legal
 pub beam_list-legal : (r : Rules) → IsMachine r → (loop_block : Option ℕ) (targets : List ℤ) (blocks : ℕ) → AreTargets r.decoder blocks targets
     → IsLegal r.decoder blocks loop_block (beam_list r.decoder loop_block targets blocks)
 unfolding beam_list beam_head beam_symbol near_symbol

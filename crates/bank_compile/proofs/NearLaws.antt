@@ -75,11 +75,12 @@ near_sum-grows d head block from p (suc q) below =
       | inr not_less ↦ (let e : p ≡ suc q = omega arith in let same = ap (near_sum d head block from) e in omega (arith, same))
     ]
 
--- the same of a symbol that was found, and of the state after it
+-- the same of a symbol that was found
 pub symbol_fits : (r : Rules) → IsMachine r → (head p : ℕ) (at : State) (target : ℤ) (symbol : ℕ) → symbol ≡ nearest_symbol r.decoder head p at target
     → p < r.decoder.samples → symbol < r.decoder.symbols p
 symbol_fits r laws head p at target symbol nearest within = let h = nearest-fits r laws head p at target within in omega (arith, nearest, h)
 
+-- and of the state after it
 pub state_fits : (r : Rules) → IsMachine r → (head p symbol : ℕ) (at next : State) → next ≡ r.decoder.step head p symbol at → head < r.decoder.heads
     → p < r.decoder.samples → symbol < r.decoder.symbols p → IsTrue (r.decoder.is_state at) → IsTrue (r.decoder.is_state next)
 state_fits r laws head p symbol at next steps head_fits within fits at_fits = rw steps (laws.steps head p symbol at head_fits within fits at_fits)
@@ -97,6 +98,7 @@ pub record IsNear (d : Decoder) (head : ℕ) (block : List ℤ) (from : State) (
   pub state : at ≡ near_state d head block from p
   pub sum : cost ≡ near_sum d head block from p
 
+-- no place so far
 pub near_none : (d : Decoder) (head : ℕ) (block : List ℤ) (from : State) → IsNear d head block from 0 from 0
 unfolding near_state near_sum
 near_none d head block from = record { state = refl; sum = refl }

@@ -29,6 +29,7 @@ out-length out is =
 nine-times : (n : ℕ) → 9 * n / 9 ≡ n
 nine-times n = let e : 9 * n ≡ n * 9 + 0 = omega arith in ap (λ z. z / 9) e ∙ div-mul-add n 9 0 (omega arith)
 
+-- so the image counts as many blocks as were fitted
 pub out-blocks : (out : SampleOut) → IsOut out → blocks_of (part_of out) ≡ out.fitted.blocks
 out-blocks out is = ap (λ z. z / 9) (out-length out is) ∙ nine-times out.fitted.blocks
 
@@ -46,6 +47,7 @@ out-stored out is = record {
   again_is = goes-on 0 out.fitted.loop_block;
 }
 
+-- so the sample can be written into an image
 pub out-part : (out : SampleOut) → IsOut out → IsPart (part_of out)
 out-part out is =
     let len = out-length out is in
@@ -63,6 +65,7 @@ out-part out is =
       loop_block = ap (λ n. loop_block_of (track n)) count ∙ stored-loop out.blocks 0 again is.list out.fitted.blocks out.fitted.loop_block is.legal stored;
     }
 
+-- and so can all samples of a bank
 pub out-parts : (outs : List SampleOut) → AllByRecursion IsOut outs → AllByRecursion IsPart (map part_of outs)
 out-parts [] are = tt
 out-parts (out ∷ outs) are = (out-part out are.0, out-parts outs are.1)
@@ -78,12 +81,13 @@ all-blocks (out ∷ outs) are =
 base-is : (base : ℕ) → IsWithin 0 65280 256 base → is_base base ≡ true
 base-is base within = let most = within.most in let multiple = within.multiple in grind (arith, nat_tests)
 
--- what is refused or not
+-- a refusal, or the file that comes after the test
 ended : (full : Bool) (total : ℕ) (file : List ℕ)
     → ((let e : Result ℕ LayFault = if full then Err (ImageFull total) else Ok total in e) >>= (λ _. Ok file)) ≡ (if full then Err (ImageFull total) else Ok file)
 ended true total file = refl
 ended false total file = refl
 
+-- the image that is written of them is the bank's, or both are refused alike
 pub image-written : (base : ℕ) (outs : List SampleOut) → IsWithin 0 65280 256 base → All IsOut outs → written_image base (map part_of outs) ≡ image_of base outs
 unfolding written_image end_of image_of
 image-written base outs within are =

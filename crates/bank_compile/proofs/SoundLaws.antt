@@ -38,6 +38,7 @@ pub record IsSoundFile (file : List ℕ) (rate : ℕ) (samples : List ℤ) (poin
 abbrev pub AreWithin : ℕ → Option LoopAt → Type 0
 AreWithin count points = IfSome points (λ at. (at.start ≤ at.end) × (at.end < count))
 
+-- the file of a sound is read as that sound, with its loop
 pub sound_file-read : (rate : ℕ) (samples : List ℤ) (points : Option LoopAt) → 1 ≤ rate → rate ≤ 1000000 → length samples ≤ 2 ^ 24 → AreSamples samples
     → AreWithin (length samples) points → IsSoundFile (sound_file rate samples points) rate samples points
 sound_file-read rate samples None some low few range within =
@@ -86,6 +87,7 @@ doubled list count k = elim (cases_lt k count) [
       ap (λ y. pos 2 *ℤ y) plain ∙ sym scaled)
 ]
 
+-- and so it is where both go round
 pub doubled-round : (list : Blocks) (count : ℕ) (points : Option LoopAt) (i : ℕ) → pos 2 *ℤ round_of (plain_outputs list count) points i ≡ round_of (outputs_of brr list count) points i
 doubled-round list count None i = doubled list count i
 doubled-round list count (Some at) i = doubled list count (round_place at i)

@@ -12,6 +12,7 @@ use Rattle.player_model.specs.Looped.{IsStoredAt}
 use Rattle.player_model.proofs.StoredKept.{stored-keeps}
 use Rattle.bank_compile.specs.Replay.{blocks_in}
 
+-- a stored legal list is the one that stands in the memory
 pub blocks_in-stored : (memory : List ℕ) (begin again : ℕ) (list : Blocks) (blocks : ℕ) (loop_block : Option ℕ) → IsLegal brr blocks loop_block list
     → IsStoredAt memory begin again list blocks loop_block → list ≡ blocks_in memory begin blocks
 blocks_in-stored memory begin again list blocks loop_block legal stored =

@@ -22,8 +22,10 @@ pub record IsOut (out : SampleOut) : Type 0 where
   pub some_rate : 1 ≤ out.rate
   pub high_rate : out.rate ≤ 1000000
   pub fit : IsBrrFit out.fitted
+  -- an output for each sample of its blocks
   pub played : length out.first ≡ out.fitted.blocks * 16
   pub range : AreSamples out.first
+  -- the list that its blocks spell
   pub list : Blocks
   pub legal : IsLegal brr out.fitted.blocks out.fitted.loop_block list
   pub spelled : out.blocks ≡ bytes_of out.fitted list

@@ -31,15 +31,21 @@ Plays bank j sound fitted = (history : State) (i : ℕ) →
 
 -- entry j of an image file, with the file of its first pass, replays a fitted sound with this rate and this error
 pub record Replays (image first : List ℕ) (j rate : ℕ) (fitted : Fitted) (error : ℕ) : Type 0 where
+  -- what the image file says
   pub bank : Image
   pub image_read : image_of image ≡ Ok bank
+  -- it has this entry, with the rate
   pub entry : j < length bank.rates
   pub entry_rate : get_or bank.rates j 0 ≡ rate
+  -- what the file of the first pass says: a sound with the rate, as long as the targets, with their loop
   pub sound : Wave
   pub first_read : read_of first None ≡ Ok sound
   pub first_rate : sound.rate ≡ rate
   pub first_length : length sound.samples ≡ length fitted.targets
   pub first_loop : first_loop_of sound.sampler (length sound.samples) ≡ Ok (points_of 16 fitted)
+  -- the player of the entry gives that sound
   pub plays : Plays bank j sound fitted
+  -- the blocks that stand in the image are a legal list
   pub legal : IsLegal brr fitted.blocks fitted.loop_block (blocks_in bank.memory (get_or bank.starts j 0) fitted.blocks)
+  -- and the error is exactly theirs
   pub error_is : error ≡ sum_of brr (blocks_in bank.memory (get_or bank.starts j 0) fitted.blocks) fitted.targets fitted.blocks

@@ -44,6 +44,7 @@ error_of fitted list = sum_of brr list fitted.targets fitted.blocks
 unfoldable pub bound_of : Fitted → ℕ
 bound_of fitted = floor_of_blocks brr_rules fitted.loop_block fitted.targets fitted.blocks
 
+-- how its loop is told: by the loop block, where there is one
 abbrev pub loop_shown : Option ℕ → LoopShown
 loop_shown None = NoLoop
 loop_shown (Some block) = Block block

@@ -58,7 +58,9 @@ pub record HasBlock (held : Files) (input output : List ℕ) (a b : World) : Typ
   pub whole : length (content_of held input) ≡ 32
   pub files : b.files ≡ stored a.files output (zero_bytes (targets_in held input))
   pub said : b.said ≡ grown a.said (block_line (error_of (targets_in held input)) (error_of (targets_in held input)))
+  -- the samples were fetched, the block stored, and its line said
   pub calls : b.calls ≡ raised 3 a.calls
+  -- the block is one of filter 0, and none of them has a smaller error
   pub legal : IsLegal brr 1 None (zero_block (targets_in held input))
   pub least : (list : Blocks) → IsLegal brr 1 None list → error_of (targets_in held input) ≤ sum_of brr list (targets_in held input) 1
 

@@ -66,6 +66,7 @@ bank_names m = m.bank ∷ map (λ (s : SampleEntry). first_pass_of m.bank s.name
 abbrev pub bank_course : Files → Content → Reading
 bank_course files m = then_read (sources_reading files m) (writing_course (bank_names m))
 
+-- what follows the reading of the manifest: nothing where that was refused
 abbrev pub course_by : Files → Result Content Status → Reading
 course_by files (Ok m) = bank_course files m
 course_by files (Err s) = nothing_read
@@ -86,15 +87,19 @@ AllStored sources outs writes = (j : ℕ) (source : Source) (out : SampleOut) (i
 
 -- what is stored and said for these sources: some blocks are chosen for each, and all else is made of them
 pub record IsBank (m : Content) (sources : List Source) (writes : List NamedFile) (line : List ℕ) : Type 0 where
+  -- what was made of each source
   pub outs : List SampleOut
   pub made : AllZip (IsMadeOf m.kind) sources outs
   pub files : bank_of m.bank m.base outs ≡ Ok writes
   pub told : line ≡ report_text outs
+  -- each sample is stored and told as promised
   pub stored : AllStored sources outs writes
 
+-- what may be stored and said for a manifest that was read
 abbrev pub bank_choice : Files → Content → Choice
 bank_choice files m = λ writes line. (sources : List Source) × (sources_in files m ≡ Ok sources) × IsBank m sources writes line
 
+-- the same; where the manifest was refused, nothing may be
 abbrev pub choice_by : Files → Result Content Status → Choice
 choice_by files (Ok m) = bank_choice files m
 choice_by files (Err s) = λ writes line. ⊥

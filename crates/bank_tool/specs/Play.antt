@@ -30,6 +30,7 @@ image_in file front = if nat_lt 8388608 (length front) then Err (Input file (Fil
 abbrev pub track_at : Image → ℕ → Result Track TrackFault
 track_at image i = track_of image.memory (get_or image.starts i 0) (get_or image.agains i 0)
 
+-- the blocks of a track, or 0 where there is none
 abbrev pub blocks_in : Result Track TrackFault → ℕ
 blocks_in (Ok track) = track.blocks
 blocks_in (Err fault) = 0
@@ -38,6 +39,7 @@ blocks_in (Err fault) = 0
 abbrev pub is_long : Image → ℕ → Bool
 is_long image i = nat_lt 4096 (blocks_in (track_at image i))
 
+-- a track, or its fault under the file's name
 abbrev pub track_status : List ℕ → Result Track TrackFault → Result Track Status
 track_status file (Ok track) = Ok track
 track_status file (Err fault) = Err (Input file (OfTrack fault))
@@ -49,6 +51,7 @@ track_unless file image entry None =
     if nat_lt entry (length image.starts) then track_status file (track_at image entry)
     else Err (Input file (NoEntry entry (length image.starts)))
 
+-- the track of the entry that was asked for, or the first fault
 unfoldable pub track_in : List ℕ → Image → ℕ → Result Track Status
 track_in file image entry = track_unless file image entry (first_where (is_long image) (length image.starts))
 
@@ -72,6 +75,7 @@ said_of file entry count front = do
 unfoldable pub front_of : Files → List ℕ → List ℕ
 front_of files file = take (8388608 + 1) (content_of files file)
 
+-- what a file says of an entry
 abbrev pub said_in : Files → List ℕ → ℕ → ℕ → Result (List ℕ) Status
 said_in files file entry count = said_of file entry count (front_of files file)
 
@@ -83,6 +87,7 @@ play_reading files file entry count = tested_reading file (said_in files file en
 abbrev pub saying : ℕ → Reading
 saying count = if count == 0 then nothing_read else writing_course []
 
+-- the file is read, and then the outputs are said
 abbrev pub play_course : Files → List ℕ → ℕ → ℕ → Reading
 play_course files file entry count = then_read (play_reading files file entry count) (saying count)
 
@@ -97,6 +102,7 @@ pub record HasPlayed (held : Files) (file : List ℕ) (entry count : ℕ) (a b :
   pub told : said_in held file entry count ≡ Ok lines
   pub files : b.files ≡ a.files
   pub said : b.said ≡ grown a.said lines
+  -- the file was fetched, and the outputs, if any, were said in one call
   pub calls : b.calls ≡ raised (if count == 0 then 1 else 2) a.calls
 
 -- what `play` answers, in its own words: r is the answer, from a to b

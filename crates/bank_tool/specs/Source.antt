@@ -34,6 +34,7 @@ if_brr Brr x = Ok x
 if_brr Spu x = Err (Manifest (BadWord (codes "format")))
 if_brr Ima x = Err (Manifest (BadWord (codes "format")))
 
+-- the content of a manifest, where its format is BRR
 abbrev pub brr_alone : Content → Result Content Status
 brr_alone m = if_brr m.kind m
 

@@ -10,6 +10,7 @@ use Rattle.block_flags.specs.Flags.{has_end, has_repeat}
 abbrev pub header_of : List ℕ → ℕ → ℕ
 header_of bytes block = get_or bytes (9 * block) 0
 
+-- whether a block has the end flag
 abbrev pub ends_at : List ℕ → ℕ → Bool
 ends_at bytes block = has_end (header_of bytes block)
 

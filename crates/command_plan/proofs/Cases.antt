@@ -18,7 +18,7 @@ use Rattle.command_plan.proofs.Fronts.{front_none, front_of}
 pub either : (P : Status → Type 0) (r s : Status) → Tells Memory r s → P s → P Memory → P r
 either P r s one p q = elim one [ inl e ↦ subst P (sym e) q | inr e ↦ subst P (sym e) p ]
 
--- a status with no other case for want of memory
+-- `Memory` alone tells of want of memory
 pub is_memory : (s : Status) → ending_of s ≡ Starved → s ≡ Memory
 is_memory Memory e = refl
 is_memory s e = cc
@@ -97,6 +97,7 @@ ends_from (Broken Say) p a b d s r later f t =
 ends_from Starved p a b d s r later f t =
     told_none Starved p a b d s r (record { files = f.files; said = inl f.said; count = f.count; few = let n = f.few in omega arith; calls = f.calls }) t.0 t.1
 
+-- a plan up to its status, and then the line of that status: the world stands as the plan says
 pub follows_from : (p : Plan) (a b d : World) (s r : Status) → a.faults ≤ b.faults → Comes p a b s → Told (has_line (ending_of s)) s b d r → Follows p a d r
 follows_from p a b d s r later f t = elim (ends_from (ending_of s) p a b d s r later f t) [
   | inl h ↦ subst (λ (x : Status). Follows p a d x) (sym h.0) h.1

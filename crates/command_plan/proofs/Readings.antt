@@ -20,6 +20,7 @@ then_read-declined c d e = rw e (ap (λ (xs : List HostCall). record { calls = x
 pub then_read-goes : (c d : Reading) → goes_on c ≡ true → then_read c d ≡ record { calls = c.calls ++ d.calls; outcome = d.outcome }
 then_read-goes c d e = rw e refl
 
+-- and so does one that came to `Done`
 pub then_read-done : (c d : Reading) → c.outcome ≡ Done → then_read c d ≡ record { calls = c.calls ++ d.calls; outcome = d.outcome }
 then_read-done c d e = then_read-goes c d (ap (λ (s : Status). is_finished (ending_of s)) e)
 
@@ -120,7 +121,7 @@ halts_next c d a m b s h r = record {
   early = r.early;
 }
 
--- a reading that halts is what halts whatever begins with it
+-- an early end stays one where another reading would come after it
 first_to : (e : Ending) (c d : Reading) (a b : World) (s : Status) → ending_of s ≡ e → is_early e ≡ true → ComesTo e (unwritten c) a b s → ComesTo e (unwritten (then_read c d)) a b s
 first_to Finished c d a b s is early h = cc
 first_to Declined c d a b s is early h =
@@ -144,6 +145,7 @@ first_to Starved c d a b s is early h = record {
   calls = h.calls;
 }
 
+-- a reading that halts does so whatever would come after it
 pub halts_first : (c d : Reading) (a b : World) (s : Status) → Halts c a b s → Halts (then_read c d) a b s
 halts_first c d a b s h = record { comes = first_to (ending_of s) c d a b s refl h.early h.comes; early = h.early }
 

@@ -30,12 +30,13 @@ fetch_fails name s a b w rose one =
     (record { comes = record { rose = rose; place = 0; reached = refl; files = w.files; said = w.said; calls = w.calls }; early = refl })
     (halts_short _ a b 1 (omega arith) w)
 
--- the file is too long, or it is not
+-- the file is too long
 pub too_long : (files : Files) (name ys : List ℕ) (most : ℕ) (fault : InputFault) (s : Status) (a b : World) → Waits 1 a b → ys ≡ take (most + 1) (content_of files name) → most < length ys → Tells Memory s (Input name fault) → Halts (whole_reading files name most fault) a b s
 too_long files name ys most fault s a b w e h one =
     halts_refused (whole_reading files name most fault) a b s (Input name fault) refl
     (cond-true _ _ _ (lt-ltb most _ (longer most _ ys e h))) w one
 
+-- it is not, and all of it was read
 pub is_read : (files : Files) (name ys : List ℕ) (most : ℕ) (fault : InputFault) (a b : World) → Waits 1 a b → ys ≡ take (most + 1) (content_of files name) → length ys ≤ most → HasRead (whole_reading files name most fault) a b
 is_read files name ys most fault a b w e h =
     record { outcome = cond-false _ _ _ (le-ltb most _ (as_long most (content_of files name) ys e h)); quiet = w }
@@ -43,9 +44,10 @@ is_read files name ys most fault a b w e h =
 waits_none : (a : World) → Waits 0 a a
 waits_none a = record { files = refl; said = refl; later = omega arith; calls = omega arith }
 
--- a test that passes, and one that refuses
+-- a test that passes
 pub decides : (o : Status) (a : World) → o ≡ Done → HasRead (decided o) a a
 decides o a e = record { outcome = e; quiet = waits_none a }
 
+-- a test that refuses
 pub decides_not : (o s t : Status) (a : World) → ending_of t ≡ Declined → o ≡ t → Tells Memory s t → Halts (decided o) a a s
 decides_not o s t a is e one = halts_refused (decided o) a a s t is e (waits_none a) one

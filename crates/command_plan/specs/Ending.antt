@@ -34,12 +34,14 @@ code_of (Full bank total) = 6
 code_of (Device at) = 8
 code_of Memory = 9
 
+-- whether all was done
 abbrev pub is_finished : Ending → Bool
 is_finished Finished = true
 is_finished Declined = false
 is_finished (Broken at) = false
 is_finished Starved = false
 
+-- whether a call of the host failed
 abbrev pub is_broken : Ending → Bool
 is_broken Finished = false
 is_broken Declined = false
@@ -50,11 +52,13 @@ is_broken Starved = false
 abbrev pub is_device : Status → Bool
 is_device s = is_broken (ending_of s)
 
+-- whether a call fetches a file
 abbrev pub is_fetch : HostCall → Bool
 is_fetch (Fetch name) = true
 is_fetch (Store name) = false
 is_fetch Say = false
 
+-- whether a call says a line
 abbrev pub is_say : HostCall → Bool
 is_say (Fetch name) = false
 is_say (Store name) = false

@@ -29,6 +29,7 @@ text_row kind text = Word kind ∷ Word text ∷ []
 unfoldable pub range_row : List ℕ → ℤ → List LinePart
 range_row key value = text_row (codes "OutOfRange") key ++ (Number value ∷ [])
 
+-- the faults of a WAVE file
 abbrev pub wave_parts : WaveFault → List LinePart
 wave_parts NotRiff = row (codes "NotRiff") []
 wave_parts NotWave = row (codes "NotWave") []
@@ -47,18 +48,21 @@ wave_parts (NoChannel channel) = row (codes "NoChannel") (channel ∷ [])
 wave_parts NoData = row (codes "NoData") []
 wave_parts NoMemory = row (codes "NoMemory") []
 
+-- the faults of its loop
 abbrev pub loop_parts : LoopFault → List LinePart
 loop_parts (SmplShort len) = row (codes "SmplShort") (len ∷ [])
 loop_parts (LoopKind kind) = row (codes "LoopKind") (kind ∷ [])
 loop_parts (LoopBackwards start end) = row (codes "LoopBackwards") (start ∷ end ∷ [])
 loop_parts (LoopOutside end frames) = row (codes "LoopOutside") (end ∷ frames ∷ [])
 
+-- the faults of a fit
 abbrev pub fit_parts : FitFault → List LinePart
 fit_parts fit.EmptySample = row (codes "EmptySample") []
 fit_parts (fit.LoopLength len block) = row (codes "LoopLength") (len ∷ block ∷ [])
 fit_parts (fit.TooLong blocks) = row (codes "TooLong") (blocks ∷ [])
 fit_parts fit.NoMemory = row (codes "NoMemory") []
 
+-- the faults of an image
 abbrev pub image_parts : ImageFault → List LinePart
 image_parts image.NotImage = row (codes "NotImage") []
 image_parts (image.BadVersion version) = row (codes "BadVersion") (version ∷ [])
@@ -71,10 +75,12 @@ image_parts (image.BadEntry entry) = row (codes "BadEntry") (entry ∷ [])
 image_parts (image.BadLoopAddress entry) = row (codes "BadLoopAddress") (entry ∷ [])
 image_parts image.NoMemory = row (codes "NoMemory") []
 
+-- the faults of a track in an image
 abbrev pub track_parts : TrackFault → List LinePart
 track_parts (NoEnd at) = row (codes "NoEnd") (at ∷ [])
 track_parts (BadAgain at) = row (codes "BadAgain") (at ∷ [])
 
+-- the faults of a manifest
 abbrev pub manifest_parts : ManifestFault → List LinePart
 manifest_parts (manifest.TooLong len) = row (codes "TooLong") (len ∷ [])
 manifest_parts manifest.NotToml = row (codes "NotToml") []
@@ -89,7 +95,7 @@ manifest_parts (manifest.SameName name) = text_row (codes "SameName") name
 manifest_parts (manifest.Clash name) = text_row (codes "Clash") name
 manifest_parts manifest.NoMemory = row (codes "NoMemory") []
 
--- a fault that holds another prints nothing of its own
+-- the faults of an input; one that holds another prints nothing of its own
 abbrev pub input_parts : InputFault → List LinePart
 input_parts (Wave fault) = wave_parts fault
 input_parts (Loop fault) = loop_parts fault

@@ -8,6 +8,7 @@ use Rattle.command_plan.specs.declared.status.HostCall.TheVariants.{Fetch, Store
 use Rattle.command_plan.specs.Ending.{Ending, Finished, Declined, Broken, Starved, ending_of, is_say}
 use Rattle.command_plan.specs.Lines.{fault_line}
 
+-- what a command is to do
 pub record Plan : Type 0 where
   -- the calls of the host in order, up to the test that decides
   pub calls : List HostCall
@@ -18,6 +19,7 @@ pub record Plan : Type 0 where
   -- what is said when they are
   pub line : List ℕ
 
+-- the names of the files, in order
 abbrev pub names_in : List NamedFile → List (List ℕ)
 names_in writes = map (λ (w : NamedFile). w.name) writes
 
@@ -60,6 +62,7 @@ pub record Refuses (p : Plan) (a b : World) (s : Status) : Type 0 where
 -- a call of the plan failed; where that was not the last, the line of the status was tried after it
 pub record Breaks (p : Plan) (a b : World) (s : Status) (at : HostCall) : Type 0 where
   pub rose : Rose a.faults b.faults
+  -- which of the calls that was, from 0
   pub place : ℕ
   pub reached : slice_get p.calls place ≡ Some at
   pub files : LeftAt p place at a.files b.files
@@ -70,6 +73,7 @@ pub record Breaks (p : Plan) (a b : World) (s : Status) (at : HostCall) : Type 0
 pub record RunsShort (p : Plan) (a b : World) : Type 0 where
   pub files : PartlySet p.writes a.files b.files
   pub said : GrowsByFront a.said b.said p.line ⊎ ((s : Status) × GrowsByFront a.said b.said (fault_line s))
+  -- how many calls were made
   pub count : ℕ
   pub few : count ≤ length p.calls + 1
   pub calls : b.calls ≡ raised count a.calls

@@ -51,6 +51,7 @@ read_each f (x ∷ xs) = then_read (f x) (read_each f xs)
 abbrev pub writing_calls : List (List ℕ) → List HostCall
 writing_calls names = map (λ n. Store n) names ++ (Say ∷ [])
 
+-- the same as a reading that refuses nothing
 abbrev pub writing_course : List (List ℕ) → Reading
 writing_course names = record { calls = writing_calls names; outcome = Done }
 

@@ -27,6 +27,7 @@ SaidAt p Say before after = GrowsByFront before after p.line
 -- a call of the plan failed, and nothing was said of that yet
 pub record Stops (p : Plan) (a b : World) (at : HostCall) : Type 0 where
   pub rose : Rose a.faults b.faults
+  -- which of the calls that was, from 0
   pub place : ℕ
   pub reached : slice_get p.calls place ≡ Some at
   pub files : LeftAt p place at a.files b.files
@@ -37,6 +38,7 @@ pub record Stops (p : Plan) (a b : World) (at : HostCall) : Type 0 where
 pub record Lacks (p : Plan) (a b : World) : Type 0 where
   pub files : PartlySet p.writes a.files b.files
   pub said : GrowsByFront a.said b.said p.line
+  -- how many calls were made
   pub count : ℕ
   pub few : count ≤ length p.calls
   pub calls : b.calls ≡ raised count a.calls
@@ -56,6 +58,7 @@ Comes p a b s = ComesTo (ending_of s) p a b s
 pub record Waits (n : ℕ) (a b : World) : Type 0 where
   pub files : b.files ≡ a.files
   pub said : b.said ≡ a.said
+  -- no fault is taken back
   pub later : a.faults ≤ b.faults
   pub calls : b.calls ≡ raised n a.calls
 
@@ -82,6 +85,7 @@ writing writes line = record { calls = writing_calls (names_in writes); outcome 
 pub record HasStored (writes : List NamedFile) (a b : World) : Type 0 where
   pub files : b.files ≡ all_stored a.files writes
   pub said : b.said ≡ a.said
+  -- no fault is taken back
   pub later : a.faults ≤ b.faults
   pub calls : b.calls ≡ raised (length writes) a.calls
 
@@ -98,8 +102,10 @@ pub record SaysIts (s : Status) (a b : World) : Type 0 where
 -- from a to b the line of a status was tried, and r is what is answered
 pub record Tries (s : Status) (a b : World) (r : Status) : Type 0 where
   pub files : b.files ≡ a.files
+  -- no fault is taken back
   pub later : a.faults ≤ b.faults
   pub front : GrowsByFront a.said b.said (fault_line s)
+  -- how many calls were made
   pub count : ℕ
   pub few : count ≤ 1
   pub calls : b.calls ≡ raised count a.calls

@@ -1,3 +1,4 @@
+-- Looking up a name in a list of files.
 use Rattle.std.proofs.Common.{◌≡◌, ℕ, List, ◌∷◌, Some, true, false, cond, sym, ap, ◌∙◌}
 use Rattle.std.specs.Ordering.{nat_cmp}
 use Rattle.std.specs.Cmp.Lexicographic.{slice_cmp}

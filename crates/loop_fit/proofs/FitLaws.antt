@@ -81,9 +81,11 @@ target-sample samples looped front i range =
       | inr after ↦ rw (le-ltb i front after) (round-sample samples looped (i - front) range)
     ]
 
+-- there are as many targets as were asked for
 pub targets-count : (samples : List ℤ) (looped : Option LoopAt) (front count : ℕ) → length (targets_of samples looped front count) ≡ count
 targets-count samples looped front count = length-map-range_with_len (target_of samples looped front) 0 count
 
+-- and all of them are samples
 pub targets-range : (samples : List ℤ) (looped : Option LoopAt) (front count : ℕ) → AreSamples samples → AreSamples (targets_of samples looped front count)
 targets-range samples looped front count range =
     All-from_get_or IsSample (targets_of samples looped front count) (pos 0)
@@ -101,6 +103,7 @@ some_blocks a block h = elim (cases_lt 0 a) [ inl some ↦ some | inr none ↦ (
 below_product : (a b block : ℕ) → a * block < b * block → a < b
 below_product a b block h = elim (cases_lt a b) [ inl less ↦ less | inr more ↦ absurd (omega (arith, mul-le b block a block more (omega arith))) ]
 
+-- every plan for a sound with frames is so
 pub in_blocks : (frames block : ℕ) (looped : Option LoopAt) (plan : Plan) → 0 < frames → IsPlan frames block looped plan → IsInBlocks block plan
 in_blocks frames block None plan some p = record {
   some = some_blocks plan.blocks block (omega (arith, p.enough));
@@ -147,6 +150,7 @@ fitted_of-whole samples at rule plan some source h =
       loop_block = p.loop_block;
     }
 
+-- a number that is not 0 is above it
 pub some_from : (n : ℕ) → nat_eq n 0 ≡ false → 0 < n
 some_from n h = grind (arith, nat_tests)
 
@@ -162,16 +166,19 @@ fit_of-is samples at rule fitted h =
           (w.0, some_from _ some, w.1, same_ok (fitted_of samples at rule w.0) fitted w.2))
     ]
 
+-- a fit goes round as the sound does
 pub fit_of-goes_round : (samples : List ℤ) (at : Option LoopAt) (rule : FitRule) (fitted : Fitted) → IsSource samples at rule → fit_of samples at rule ≡ Ok fitted → GoesRound samples at rule fitted
 fit_of-goes_round samples at rule fitted source h =
     let w = fit_of-is samples at rule fitted h in
     subst (GoesRound samples at rule) w.3 (fitted_of-goes_round samples at rule w.0 source w.2)
 
+-- has whole blocks
 pub fit_of-whole : (samples : List ℤ) (at : Option LoopAt) (rule : FitRule) (fitted : Fitted) → IsSource samples at rule → fit_of samples at rule ≡ Ok fitted → IsWhole rule.block fitted
 fit_of-whole samples at rule fitted source h =
     let w = fit_of-is samples at rule fitted h in
     subst (IsWhole rule.block) w.3 (fitted_of-whole samples at rule w.0 w.1 source w.2)
 
+-- and has each target in its place
 pub fit_of-targets : (samples : List ℤ) (at : Option LoopAt) (rule : FitRule) (fitted : Fitted) → fit_of samples at rule ≡ Ok fitted → HasTargets samples at rule fitted
 fit_of-targets samples at rule fitted h =
     let w = fit_of-is samples at rule fitted h in

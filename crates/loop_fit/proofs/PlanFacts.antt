@@ -35,9 +35,11 @@ allowed : {A : Type 0} (b : Bool) (e : FitFault) (x y : A) → cond {A = Result 
 allowed true e x y h = (refl, cc)
 allowed false e x y h = (cc, cc)
 
+-- a value where nothing was refused
 abbrev pub done : {A : Type 0} → A → Result A FitFault
 done x = Ok x
 
+-- such answers are the same only where the values are
 pub same_ok : {A : Type 0} (x y : A) → done x ≡ Ok y → x ≡ y
 same_ok x y h = cc
 
@@ -67,13 +69,14 @@ rounds-whole Unroll block len n some h =
     let same : unroll_of block len ≡ n = same_ok _ _ h in
     subst (λ (m : ℕ). (1 ≤ m) × ((m * len) % block ≡ 0)) same (unroll_of-some block len, unroll_of-whole block len some)
 
--- a sound that is played once
+-- a plan for a sound that is played once
 pub record IsOncePlan (frames block : ℕ) (plan : Plan) : Type 0 where
   pub front : plan.front ≡ 0
   pub loop_block : plan.loop_block ≡ None
   pub enough : frames ≤ plan.blocks * block
   pub size : IsSized block plan.blocks
 
+-- where no loop has to lie on whole blocks, every plan is such a plan
 pub once_plan : (frames : ℕ) (rule : FitRule) (plan : Plan) → 0 < rule.block → plan_of frames None rule ≡ Ok plan → IsOncePlan frames rule.block plan
 unfolding plan_of
 once_plan frames rule plan some h =
@@ -83,10 +86,12 @@ once_plan frames rule plan some h =
     let enough : frames ≤ on.0 * rule.block = subst (λ (n : ℕ). frames ≤ n * rule.block) size.0 (div_ceil_times frames rule.block some).0 in
     subst (IsOncePlan frames rule.block) (same_ok (made on.0) plan on.2) (record { front = refl; loop_block = refl; enough = enough; size = size.1 })
 
--- a sound with a loop on whole blocks
+-- a plan for a sound with a loop on whole blocks
 pub record IsLoopPlan (block : ℕ) (at : LoopAt) (plan : Plan) : Type 0 where
   pub some : 1 ≤ plan.unroll
+  -- the last block ends where the last round of the loop does
   pub end : plan.blocks * block ≡ loop_target block at + plan.unroll * loop_length at
+  -- the block at which the loop begins
   pub first : ℕ
   pub loop_block : plan.loop_block ≡ Some first
   pub first_is : first * block ≡ loop_target block at
@@ -97,6 +102,7 @@ front-fits : (start : Start) (block : ℕ) (at : LoopAt) → front_of start bloc
 front-fits Front block at = omega arith
 front-fits Rotate block at = omega arith
 
+-- where a loop has to, every plan is such a plan
 pub loop_plan : (frames : ℕ) (at : LoopAt) (rule : FitRule) (plan : Plan) → 0 < rule.block → plan_of frames (Some at) rule ≡ Ok plan → IsLoopPlan rule.block at plan
 unfolding plan_of
 loop_plan frames at rule plan some h =
@@ -120,6 +126,7 @@ abbrev pub IsPlan : ℕ → ℕ → Option LoopAt → Plan → Type 0
 IsPlan frames block None plan = IsOncePlan frames block plan
 IsPlan frames block (Some at) plan = IsLoopPlan block at plan
 
+-- every plan that was not refused says so
 pub plan_of-is : (frames : ℕ) (looped : Option LoopAt) (rule : FitRule) (plan : Plan) → 0 < rule.block → plan_of frames looped rule ≡ Ok plan → IsPlan frames rule.block looped plan
 plan_of-is frames None rule plan some h = once_plan frames rule plan some h
 plan_of-is frames (Some at) rule plan some h = loop_plan frames at rule plan some h

@@ -49,6 +49,7 @@ leaves block len some =
     let l : len ≡ k * h = eq_of_mul-eq-mul_left u (unroll_of-some block len) len (k * h) turned in
     (b, ap (λ n. n % h) l ∙ mul-mod_left k h)
 
+-- so the rounds times the greatest common divisor are the block's samples
 pub unroll_of-quotient : (block len g : ℕ) → 0 < block → IsGcd len block g → unroll_of block len * g ≡ block
 unroll_of-quotient block len g some gcd =
     let u = unroll_of block len in

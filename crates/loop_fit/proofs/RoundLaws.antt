@@ -24,10 +24,12 @@ delayed-after front sound i h =
     let test : nat_lt i front ≡ false = le-ltb _ _ h in
     rw test refl
 
+-- a target of the list is that of its place
 pub target-at : (samples : List ℤ) (looped : Option LoopAt) (front count i : ℕ) → i < count
     → get_or (targets_of samples looped front count) i (pos 0) ≡ target_of samples looped front i
 target-at samples looped front count i h = get_or-map-range_with_len (target_of samples looped front) 0 count i i (pos 0) h (omega arith)
 
+-- and behind the last one there is silence
 pub target-past : (samples : List ℤ) (looped : Option LoopAt) (front count i : ℕ) → count ≤ i → get_or (targets_of samples looped front count) i (pos 0) ≡ pos 0
 target-past samples looped front count i h =
     get_or_past (targets_of samples looped front count) i (pos 0) (omega (arith, length-map-range_with_len (target_of samples looped front) 0 count))
@@ -49,6 +51,7 @@ round_place-over at i over = let test : nat_le i at.end ≡ false = lt-leb _ _ o
 pub round_place-within : (at : LoopAt) (i : ℕ) → i ≤ at.end → round_place at i ≡ i
 round_place-within at i within = let test : nat_le i at.end ≡ true = le-leb _ _ within in rw test refl
 
+-- so it never passes the end
 pub round_place-le : (at : LoopAt) (i : ℕ) → at.start ≤ at.end → round_place at i ≤ at.end
 round_place-le at i ordered =
     elim (cases_lt at.end i) [

@@ -53,6 +53,7 @@ unroll_of-whole block len some =
     let whole : (suc (block - 1) * len) % block ≡ 0 = ap (λ n. (n * len) % block) last ∙ whole_rounds block len in
     eqb-true _ _ (first_passes (λ j. nat_eq ((suc j * len) % block) 0) block (block - 1) (omega arith) (eq-eqb _ _ whole))
 
+-- there is at least one round
 pub unroll_of-some : (block len : ℕ) → 1 ≤ unroll_of block len
 unfolding unroll_of
 unroll_of-some block len = omega arith

@@ -50,6 +50,7 @@ abbrev pub points_in : ℕ → ℕ → Option ℕ → Option LoopAt → Option L
 points_in block blocks None frames = frames
 points_in block blocks (Some loop_block) frames = Some (record { start = loop_block * block; end = blocks * block - 1 })
 
+-- the loop of a fit's targets
 abbrev pub points_of : ℕ → Fitted → Option LoopAt
 points_of block fitted = points_in block fitted.blocks fitted.loop_block fitted.loop_frames
 

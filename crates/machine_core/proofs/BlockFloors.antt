@@ -42,6 +42,7 @@ tail-is r list targets b p i (suc count) e within =
     let step : state_at r.decoder list start (suc i) ≡ r.decoder.step (get_or list.heads b 0) p (symbol_at list (b * r.decoder.samples + p)) (state_at r.decoder list start i) = cc in
     cc
 
+-- a block has a target for each of its samples
 pub targets-length : (r : Rules) (targets : List ℤ) (blocks b : ℕ) → length targets ≡ blocks * r.decoder.samples → b < blocks → length (block_targets r targets b) ≡ r.decoder.samples
 targets-length r targets blocks b count below =
     let ends = block-ends b r.decoder.samples blocks below in

@@ -22,6 +22,7 @@ part-floor r loop_block targets b count k i segment below e =
     let rule : rule_of None k ≡ rule_of loop_block i = sym (ap (rule_of loop_block) e ∙ segment k below) in
     ap (λ z. ruled_floor r z (block_targets r (part_targets r.decoder targets b count) k)) rule ∙ ap (ruled_floor r (rule_of loop_block i)) targets_same
 
+-- the floors of a segment alone are those that its blocks have in the whole
 pub part-floors : (r : Rules) (loop_block : Option ℕ) (targets : List ℤ) (b count : ℕ) → IsSegment loop_block b count → (k n i : ℕ) → k + n ≤ count → i ≡ b + k
     → floors_from r None (part_targets r.decoder targets b count) k n ≡ floors_from r loop_block targets i n
 part-floors r loop_block targets b count segment k zero i within e = refl

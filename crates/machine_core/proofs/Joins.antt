@@ -36,6 +36,7 @@ both-parts xs ys n m P e first second k within =
           subst (P k) (sym (get_or-append_right xs ys n k 0 e behind)) (subst (λ (z : ℕ). P z (get_or ys (k - n) 0)) there (second (k - n) (omega arith))))
     ]
 
+-- the legal lists of two segments, one after the other, are legal
 pub joined-legal : (d : Decoder) (n m : ℕ) (loop_block : Option ℕ) (first second : Blocks) → 0 < d.samples → IsLegal d n None first → IsLegal d m None second
     → IsSegment loop_block 0 n → IsSegment loop_block n m → IsLegal d (n + m) loop_block (joined first second)
 joined-legal d n m loop_block first second some front back front_segment back_segment =

@@ -21,6 +21,7 @@ use Rattle.machine_core.proofs.Histories.{outputs-forget}
 moved-block : (n b j : ℕ) → 0 < n → (b * n + j) / n ≡ b + j / n
 moved-block n b j some = mul-add-div_right some b j
 
+-- and at the same place of its block
 pub moved-place : (n b j : ℕ) → 0 < n → (b * n + j) % n ≡ j % n
 moved-place n b j some =
     let block : (b * n + j) / n * n ≡ (b + j / n) * n = ap (λ z. z * n) (moved-block n b j some) in

@@ -14,6 +14,7 @@ pub record Blocks : Type 0 where
 abbrev pub head_at : Decoder → Blocks → ℕ → ℕ
 head_at d list i = get_or list.heads (i / d.samples) 0
 
+-- the symbol of sample i
 abbrev pub symbol_at : Blocks → ℕ → ℕ
 symbol_at list i = get_or list.symbols i 0
 

@@ -8,6 +8,7 @@ use Rattle.machine_core.specs.declared.boxes.Bx.{Bx}
 use Rattle.machine_core.specs.Boxes.{InBox}
 use Rattle.machine_core.specs.Decoder.{Decoder, Forgets, start, cost_of}
 
+-- a decoder, with its boxes of states and the floors under its blocks
 pub record Rules : Type 0 where
   pub decoder : Decoder
   pub kind : Kind
@@ -41,18 +42,23 @@ pub record IsMachine (r : Rules) : Type 0 where
   pub some_symbols : (p : ℕ) → p < r.decoder.samples → 0 < r.decoder.symbols p
   pub some_head : (rule : HeadRule) → (head : ℕ) × (head < r.decoder.heads) × IsTrue (r.decoder.allows head rule)
   pub start_fits : IsTrue (r.decoder.is_state start)
+  -- a step leads from a state to a state
   pub steps : (head p symbol : ℕ) (at : State) → head < r.decoder.heads → p < r.decoder.samples → symbol < r.decoder.symbols p
       → IsTrue (r.decoder.is_state at) → IsTrue (r.decoder.is_state (r.decoder.step head p symbol at))
   pub costs_small : (at : State) (target : ℤ) → IsTrue (r.decoder.is_state at) → IsSample target → cost_of r.decoder at target ≤ 2 ^ 32
   pub forgets : Forgets r.decoder
+  -- heads that have one lane at a later place act alike from there on
   pub lanes_alike : (g h p q symbol : ℕ) (at : State) → g < r.decoder.heads → h < r.decoder.heads → 0 < p → p ≤ q → q < r.decoder.samples
       → r.lane g p ≡ r.lane h p → r.decoder.step g q symbol at ≡ r.decoder.step h q symbol at
+  -- a floor is at most what any symbols cost from any state of the box to the block's end
   pub floors : (head p : ℕ) (bx : Bx) (targets : List ℤ) (symbol : ℕ → ℕ) (at : State) → head < r.decoder.heads → p < r.decoder.samples
       → length targets ≡ r.decoder.samples → AreSamples targets → ((q : ℕ) → q < r.decoder.samples → symbol q < r.decoder.symbols q)
       → IsTrue (r.is_box p bx) → IsTrue (r.decoder.is_state at) → InBox at bx
       → r.floor head p bx targets ≤ tail_cost r.decoder head symbol targets p at (r.decoder.samples - p)
   pub floors_small : (head p : ℕ) (bx : Bx) (targets : List ℤ) → head < r.decoder.heads → p < r.decoder.samples → IsTrue (r.is_box p bx)
       → length targets ≡ r.decoder.samples → AreSamples targets → r.floor head p bx targets < 2 ^ 44
+  -- the box of all states may stand at a block's first place
   pub whole_is_box : IsTrue (r.is_box 0 r.whole)
+  -- and holds every state
   pub whole_holds : (at : State) → IsTrue (r.decoder.is_state at) → InBox at r.whole
   pub tables_small : r.floor_len ≤ 89 * (r.decoder.samples + 1)

@@ -21,11 +21,17 @@ use Rattle.manifest_reader.specs.Names.{check_names}
 pub record Content : Type 0 where
   pub kind : Kind
   pub bank : List ℕ
+  -- where a SNES image begins in sound memory
   pub base : ℕ
+  -- bytes of a block of IMA ADPCM
   pub block : ℕ
+  -- how many lists of blocks the encoder keeps
   pub beam : ℕ
+  -- how many cells the search may keep for a sample
   pub budget : ℕ
+  -- how a loop's length is fitted to blocks
   pub length : Length
+  -- how a loop's start is fitted to blocks
   pub start : Start
   pub samples : List SampleEntry
 

@@ -7,6 +7,7 @@ use Rattle.std.proofs.Math.Nat.{mod-eq_of_lt, mod_self, suc-mod}
 abbrev pub round_index : ℕ → ℕ → ℕ → ℕ
 round_index point end i = if nat_lt i end then i else point + (i - point) % (end - point)
 
+-- what a test of two numbers answers, by what holds of them
 pub is-below : (x y : ℕ) → x < y → nat_lt x y ≡ true
 is-below x y h = grind (arith, nat_tests)
 
@@ -19,6 +20,7 @@ differ x y h = grind (arith, nat_tests)
 pub same : (x y : ℕ) → x ≡ y → nat_eq x y ≡ true
 same x y h = grind (arith, nat_tests)
 
+-- a number is below another or not
 pub below-or-not : (x y : ℕ) → (x < y) ⊎ (y ≤ x)
 below-or-not x y = grind arith
 
@@ -28,12 +30,15 @@ mod-within i n h = suc-mod i n ∙ mod-eq_of_lt h
 mod-over : (i n : ℕ) → suc (i % n) ≡ n → suc i % n ≡ 0
 mod-over i n h = suc-mod i n ∙ (ap (λ x. x % n) h ∙ mod_self n)
 
+-- in the first pass it is the sample's own
 pub index-first : (point end i : ℕ) → i < end → round_index point end i ≡ i
 index-first point end i h = rw (is-below i end h) refl
 
+-- and behind it one of the loop's
 pub index-later : (point end i : ℕ) → end ≤ i → round_index point end i ≡ point + (i - point) % (end - point)
 index-later point end i h = rw (not-below i end h) refl
 
+-- the next sample has the next index, up to the end
 pub index-next : (point end i : ℕ) → point < end → suc (round_index point end i) < end → round_index point end (suc i) ≡ suc (round_index point end i)
 index-next point end i h below = elim (below-or-not i end) [
   | inl first ↦ (let e = index-first point end i first in
@@ -47,6 +52,7 @@ index-next point end i h below = elim (below-or-not i end) [
       omega (arith, n, q, e))
 ]
 
+-- and at the end the loop's first
 pub index-over : (point end i : ℕ) → point < end → suc (round_index point end i) ≡ end → round_index point end (suc i) ≡ point
 index-over point end i h at = elim (below-or-not i end) [
   | inl first ↦ (let e = index-first point end i first in

@@ -45,6 +45,7 @@ goes-round d f memory start again blocks loop_block list history from laws keeps
       ]
     ]
 
+-- so the player's outputs are those of the list, going round
 pub round-holds : (d : Decoder) (f : Format) (memory : List ℕ) (start blocks loop_block : ℕ) (list : Blocks) (history from : State) (i : ℕ)
     → Forgets d → Keeps d f memory start list blocks true → loop_block < blocks
     → d.allows (get_or list.heads 0 0) FilterZero ≡ true → d.allows (get_or list.heads loop_block 0) FilterZero ≡ true
@@ -94,6 +95,7 @@ goes-silent d f memory start again blocks list history from laws keeps some firs
       | inr after ↦ stays-silent d f memory again (position_at d f memory start again history i) (goes-silent d f memory start again blocks list history from laws keeps some first i after)
     ]
 
+-- so the player's outputs are those of the list, and then silence
 pub once-holds : (d : Decoder) (f : Format) (memory : List ℕ) (start again blocks : ℕ) (list : Blocks) (history from : State) (i : ℕ)
     → Forgets d → Keeps d f memory start list blocks false → 0 < blocks → d.allows (get_or list.heads 0 0) FilterZero ≡ true
     → play d f memory start again history i ≡ (if nat_lt i (blocks * d.samples) then output_at d list from i else pos 0)

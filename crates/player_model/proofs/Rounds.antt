@@ -41,13 +41,14 @@ round_left_out d f memory again at gone left back =
     position_after-plus d f memory again at (gone * (left / gone)) (left % gone) left (omega (arith, div-add-mod' left gone))
     ∙ ap (λ (p : Position). position_after d f memory again p (left % gone)) (comes-back d f memory again at gone (left / gone) (gone * (left / gone)) back refl)
 
--- one more playing: what is left, and how far a known position lies behind
+-- one more playing: what is left
 pub playing_more : (d : Decoder) (f : Format) (memory : List ℕ) (again : ℕ) (at next whole : Position) (playing left less : ℕ)
     → whole ≡ position_after d f memory again at left → next ≡ position_after d f memory again at playing → left ≡ playing + less
     → whole ≡ position_after d f memory again next less
 playing_more d f memory again at next whole playing left less is goes split =
     is ∙ position_after-plus d f memory again at playing less left split ∙ ap (λ (p : Position). position_after d f memory again p less) (sym goes)
 
+-- and how far a known position lies behind
 pub known_more : (d : Decoder) (f : Format) (memory : List ℕ) (again : ℕ) (known at next : Position) (playing gone more : ℕ)
     → position_after d f memory again known gone ≡ at → next ≡ position_after d f memory again at playing → more ≡ gone + playing
     → position_after d f memory again known more ≡ next
@@ -69,12 +70,13 @@ from_end t first end at whole rest i begins ends is sum =
     (is ∙ ap (λ (p : Position). position_after brr brr_format t.memory t.again p rest) ends
     ∙ sym (position_after-plus brr brr_format t.memory t.again first whole rest i sum))
 
--- what is heard at the position of a sample
+-- what is heard at the position of a sample: silence where the player is muted
 pub heard_silent : (t : Track) (at : Position) (i : ℕ) → at ≡ track_position t i → at.muted ≡ true → pos 0 ≡ heard t i
 heard_silent t at i is silent =
     let sounds : sound brr brr_format t.memory at ≡ pos 0 = rw silent refl in
     sym sounds ∙ ap (sound brr brr_format t.memory) is
 
+-- and else the last output of the history after it
 pub heard_sound : (t : Track) (at after : Position) (i : ℕ) → at ≡ track_position t i → at.muted ≡ false
     → after ≡ moved brr brr_format t.memory t.again at → after.history.a ≡ heard t i
 heard_sound t at after i is sounding moves =

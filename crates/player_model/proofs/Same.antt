@@ -8,6 +8,7 @@ use Rattle.std.proofs.lemmas.Bool.Decides.{Decides-int_eq}
 use Rattle.machine_core.specs.declared.state.State.{State}
 use Rattle.player_model.specs.declared.position.Position.{Position}
 
+-- the tests of equality, field by field
 abbrev pub same_state : State → State → Bool
 same_state s t = int_eq s.a t.a && int_eq s.b t.b
 
@@ -34,6 +35,7 @@ states_equal s t h =
 position-of : ℕ → ℕ → State → Bool → Position
 position-of address place history muted = record { address = address; place = place; history = history; muted = muted }
 
+-- positions that pass the test are equal
 pub positions_equal : (p q : Position) → true ≡ same_position p q → p ≡ q
 unfolding position-of
 positions_equal p q h =

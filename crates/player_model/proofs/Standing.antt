@@ -10,6 +10,7 @@ use Rattle.player_model.specs.Player.{Format, sounded, is_last, moved, next_posi
 use Rattle.player_model.proofs.Keeping.{IsKept, Keeps}
 use Rattle.player_model.proofs.LoopIndex.{differ, same}
 
+-- the symbols of block b, by their places
 abbrev pub codes_of : Decoder → Blocks → ℕ → ℕ → ℕ
 codes_of d list b p = get_or list.symbols (b * d.samples + p) 0
 
@@ -87,6 +88,7 @@ ended-is d f memory start blocks list looped from j at laws keeps w last =
 next-is : (d : Decoder) (f : Format) (memory : List ℕ) (again : ℕ) (at : Position) → at.muted ≡ false → moved d f memory again at ≡ next_position d f memory again at
 next-is d f memory again at h = rw h refl
 
+-- after a sample within a block the player stands at the next one
 pub stands-within : (d : Decoder) (f : Format) (memory : List ℕ) (start again blocks : ℕ) (list : Blocks) (looped : Bool) (from : State) (j : ℕ) (at : Position)
     → Keeps d f memory start list blocks looped → (w : Stands d f start blocks list from j at) → suc w.place < d.samples
     → Stands d f start blocks list from (suc j) (next_position d f memory again at)
@@ -108,6 +110,7 @@ stands-within d f memory start again blocks list looped from j at keeps w less =
       agrees = record { base = w.agrees.base; state_is = s; base_is = w.agrees.base_is };
     })
 
+-- after the last sample of a block, at the first of the next block
 pub stands-on : (d : Decoder) (f : Format) (memory : List ℕ) (start again blocks : ℕ) (list : Blocks) (looped : Bool) (from : State) (j : ℕ) (at : Position)
     → Forgets d → Keeps d f memory start list blocks looped → (w : Stands d f start blocks list from j at) → suc w.place ≡ d.samples → suc w.block < blocks
     → Stands d f start blocks list from (suc j) (next_position d f memory again at)
@@ -131,6 +134,7 @@ stands-on d f memory start again blocks list looped from j at laws keeps w last 
       agrees = record { base = sounded d f memory at; state_is = refl; base_is = inr (s ∙ ap (state_at d list from) i) };
     })
 
+-- after the last sample of all, at the first of the loop block
 pub stands-round : (d : Decoder) (f : Format) (memory : List ℕ) (start again blocks loop_block : ℕ) (list : Blocks) (from : State) (j : ℕ) (at : Position)
     → Forgets d → Keeps d f memory start list blocks true → (w : Stands d f start blocks list from j at) → suc w.place ≡ d.samples → suc w.block ≡ blocks
     → again ≡ start + loop_block * f.size → loop_block < blocks → d.allows (get_or list.heads loop_block 0) FilterZero ≡ true
@@ -154,6 +158,7 @@ stands-round d f memory start again blocks loop_block list from j at laws keeps 
       agrees = record { base = sounded d f memory at; state_is = refl; base_is = inl forgets };
     })
 
+-- or it is silent, where there is no loop
 pub falls-silent : (d : Decoder) (f : Format) (memory : List ℕ) (start again blocks : ℕ) (list : Blocks) (from : State) (j : ℕ) (at : Position)
     → Keeps d f memory start list blocks false → (w : Stands d f start blocks list from j at) → suc w.place ≡ d.samples → suc w.block ≡ blocks
     → (next_position d f memory again at).muted ≡ true
@@ -164,9 +169,11 @@ falls-silent d f memory start again blocks list from j at keeps w last over =
     let m : (moved d f memory again at).muted ≡ true = rw (yes', e, r) refl in
     ap (λ (x : Position). x.muted) (sym (next-is d f memory again at w.sounds)) ∙ m
 
+-- and stays silent
 pub stays-silent : (d : Decoder) (f : Format) (memory : List ℕ) (again : ℕ) (at : Position) → at.muted ≡ true → (next_position d f memory again at).muted ≡ true
 stays-silent d f memory again at h = let q : next_position d f memory again at ≡ at = rw h refl in ap (λ (x : Position). x.muted) q ∙ h
 
+-- at first it stands at the first sample
 pub stands-first : (d : Decoder) (f : Format) (start blocks : ℕ) (list : Blocks) (from history : State) → Forgets d → 0 < blocks → d.allows (get_or list.heads 0 0) FilterZero ≡ true
     → Stands d f start blocks list from 0 (first_position start history)
 stands-first d f start blocks list from history laws some forgets = record {

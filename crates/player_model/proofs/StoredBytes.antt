@@ -12,9 +12,11 @@ use Rattle.player_model.specs.Stored.{stored_block, stored_front, stored_blocks}
 abbrev pub block_codes : Blocks → ℕ → List ℕ
 block_codes list b = slice_range list.symbols (16 * b) (16 * b + 16)
 
+-- there are sixteen of them
 pub codes-length : (symbols : List ℕ) (b : ℕ) → 16 * b + 16 ≤ length symbols → length (slice_range symbols (16 * b) (16 * b + 16)) ≡ 16
 codes-length symbols b h = grind (arith, common_steps)
 
+-- and each is the list's symbol
 pub codes-at : (symbols : List ℕ) (b i : ℕ) → i < 16 → get_or (slice_range symbols (16 * b) (16 * b + 16)) i 0 ≡ get_or symbols (b * 16 + i) 0
 codes-at symbols b i h = grind (arith, common_steps)
 
@@ -25,6 +27,7 @@ length-block list blocks loop_block b count h =
     let codes = codes-length list.symbols b (omega (arith, count)) in
     ap suc (length-code_pairs (block_codes list b) 8 codes)
 
+-- and n blocks have nine times n
 pub length-front : (list : Blocks) (blocks : ℕ) (loop_block : Option ℕ) (n : ℕ) → length list.symbols ≡ blocks * 16 → n ≤ blocks
     → length (stored_front list blocks loop_block n) ≡ 9 * n
 unfolding stored_front

@@ -68,6 +68,7 @@ code-at memory begin again list blocks loop_block b p legal stored h small =
     small
     ∙ codes-at list.symbols b p small
 
+-- the memory keeps a stored legal list
 pub stored-keeps : (memory : List ℕ) (begin again : ℕ) (list : Blocks) (blocks : ℕ) (loop_block : Option ℕ) → IsLegal brr blocks loop_block list
     → IsStoredAt memory begin again list blocks loop_block → Keeps brr brr_format memory begin list blocks (is_some loop_block)
 stored-keeps memory begin again list blocks loop_block legal stored = record {

@@ -47,6 +47,7 @@ place-within blocks l i within =
           omega (arith, rest, place-later blocks l i within later))
     ]
 
+-- what is played is the list's outputs, and then its loop for ever or silence
 pub stored-play : (memory : List ℕ) (begin again : ℕ) (list : Blocks) (blocks : ℕ) (loop_block : Option ℕ) (history from : State) (i : ℕ)
     → IsLegal brr blocks loop_block list → IsStoredAt memory begin again list blocks loop_block
     → play brr brr_format memory begin again history i ≡ round_output list from blocks loop_block i
@@ -76,6 +77,7 @@ listed list from blocks None outputs i memory begin again stored are =
 listed list from blocks (Some l) outputs i memory begin again stored are =
     sym (are.each (round_place (points_of blocks l) i) (place-within blocks l i stored.loop_within))
 
+-- the same of outputs that are given as a list
 pub stored-listed : (memory : List ℕ) (begin again : ℕ) (list : Blocks) (blocks : ℕ) (loop_block : Option ℕ) (history from : State) (outputs : List ℤ) (i : ℕ)
     → IsLegal brr blocks loop_block list → IsStoredAt memory begin again list blocks loop_block → AreOutputs list from blocks outputs
     → play brr brr_format memory begin again history i ≡ round_of outputs (loop_points blocks loop_block) i

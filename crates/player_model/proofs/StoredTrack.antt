@@ -62,6 +62,7 @@ goes-on : (memory : List ℕ) (begin again : ℕ) (list : Blocks) (blocks : ℕ)
 goes-on memory begin again list blocks None stored some = absurd (let e : false ≡ true = some in cc)
 goes-on memory begin again list blocks (Some l) stored some = block-is begin blocks again l stored.again_is stored.loop_within
 
+-- a stored legal list is read as a track of its blocks
 pub stored-track : (memory : List ℕ) (begin again : ℕ) (list : Blocks) (blocks : ℕ) (loop_block : Option ℕ) → IsLegal brr blocks loop_block list
     → IsStoredAt memory begin again list blocks loop_block
     → track_of memory begin again ≡ Ok (record { memory = memory; start = begin; again = again; blocks = blocks })
@@ -81,6 +82,7 @@ loop-of begin again blocks (Some l) memory list repeats stored is =
     let block : (again - begin) / 9 ≡ l = omega (arith, there) in
     ap (λ (t : Bool). if t then Some ((again - begin) / 9) else None) is ∙ ap (λ (n : ℕ). Some n) block
 
+-- with the list's loop block
 pub stored-loop : (memory : List ℕ) (begin again : ℕ) (list : Blocks) (blocks : ℕ) (loop_block : Option ℕ) → IsLegal brr blocks loop_block list
     → IsStoredAt memory begin again list blocks loop_block
     → loop_block_of (record { memory = memory; start = begin; again = again; blocks = blocks }) ≡ loop_block

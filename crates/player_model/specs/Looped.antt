@@ -18,6 +18,7 @@ pub record IsStoredAt (memory : List ℕ) (start again : ℕ) (list : Blocks) (b
 abbrev pub points_of : ℕ → ℕ → LoopAt
 points_of blocks l = record { start = 16 * l; end = 16 * blocks - 1 }
 
+-- the same where there may be no loop block
 abbrev pub loop_points : ℕ → Option ℕ → Option LoopAt
 loop_points blocks None = None
 loop_points blocks (Some l) = Some (points_of blocks l)

@@ -5,12 +5,17 @@ use Rattle.machine_core.specs.Decoder.{Decoder}
 use Rattle.brr_machine.specs.Spelling.{head_in, flags_in, code_in}
 use Rattle.player_model.specs.declared.position.Position.{Position}
 
--- how blocks lie in a memory: bytes in a block, and what stands at an address
+-- how blocks lie in a memory
 pub record Format : Type 0 where
+  -- bytes in a block
   pub size : ℕ
+  -- memory and address: the head of the block that begins there
   pub head_in : List ℕ → ℕ → ℕ
+  -- memory, address and place: the symbol of that block at that place
   pub symbol_in : List ℕ → ℕ → ℕ → ℕ
+  -- whether the block ends the sample
   pub ends : List ℕ → ℕ → Bool
+  -- whether the player then goes on with the loop
   pub repeats : List ℕ → ℕ → Bool
 
 -- bit 0 of the header is the end flag, bit 1 the loop flag
@@ -27,6 +32,7 @@ brr_format = record {
 abbrev pub sounded : Decoder → Format → List ℕ → Position → State
 sounded d f memory at = d.step (f.head_in memory at.address) at.place (f.symbol_in memory at.address at.place) at.history
 
+-- whether a position is at the last sample of its block
 abbrev pub is_last : Decoder → Position → Bool
 is_last d at = suc at.place == d.samples
 
@@ -47,6 +53,7 @@ moved d f memory again at = record {
   muted = if is_last d at then mutes f memory at.address else false;
 }
 
+-- the same of any position: a muted player stays where it is
 abbrev pub next_position : Decoder → Format → List ℕ → ℕ → Position → Position
 next_position d f memory again at = if at.muted then at else moved d f memory again at
 
@@ -54,6 +61,7 @@ next_position d f memory again at = if at.muted then at else moved d f memory ag
 abbrev pub sound : Decoder → Format → List ℕ → Position → ℤ
 sound d f memory at = if at.muted then pos 0 else (sounded d f memory at).a
 
+-- where a player begins, with a history
 abbrev pub first_position : ℕ → State → Position
 first_position start history = record { address = start; place = 0; history = history; muted = false }
 

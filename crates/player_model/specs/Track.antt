@@ -8,7 +8,9 @@ use Rattle.player_model.specs.Player.{brr_format}
 -- what a caller sees of a track: the memory, two addresses in it, and the blocks up to the first with the end flag
 pub record Track : Type 0 where
   pub memory : List ℕ
+  -- the address of the first block
   pub start : ℕ
+  -- the address at which the player goes on, where the last block repeats
   pub again : ℕ
   pub blocks : ℕ
 
@@ -16,9 +18,11 @@ pub record Track : Type 0 where
 abbrev pub whole_blocks : List ℕ → ℕ → ℕ
 whole_blocks memory start = (length memory - start) / 9
 
+-- whether a block has the end flag
 abbrev pub ends_at : List ℕ → ℕ → ℕ → Bool
 ends_at memory start block = brr_format.ends memory (start + 9 * block)
 
+-- and whether it has the loop flag
 abbrev pub repeats_at : List ℕ → ℕ → ℕ → Bool
 repeats_at memory start block = brr_format.repeats memory (start + 9 * block)
 
@@ -36,6 +40,7 @@ closed_track memory start again last =
     if repeats_at memory start last && not (is_block start (suc last) again) then Err (BadAgain again)
     else Ok (record { memory = memory; start = start; again = again; blocks = suc last })
 
+-- the track up to an end block, where there is one
 abbrev pub track_from : List ℕ → ℕ → ℕ → Option ℕ → Result Track TrackFault
 track_from memory start again None = Err (NoEnd (start + 9 * whole_blocks memory start))
 track_from memory start again (Some last) = closed_track memory start again last

@@ -13,6 +13,7 @@ use Rattle.snes_directory.specs.Spelling.{entry_bytes, directory_bytes, block_by
 pub drop-part : (parts : List ImagePart) (i : ℕ) (part : ImagePart) → i < length parts → part ≡ get_or parts i part → drop i parts ≡ part ∷ drop (i + 1) parts
 drop-part parts i part l is = drop_more parts i part l ∙ ap (λ (p : ImagePart). p ∷ drop (i + 1) parts) (sym is)
 
+-- it may be written as all may
 pub part-at : (parts : List ImagePart) (i : ℕ) (part : ImagePart) → i < length parts → part ≡ get_or parts i part → All IsPart parts → IsPart part
 part-at parts i part l is all = subst IsPart (sym is) (All-get_or IsPart parts i part l all)
 
@@ -26,6 +27,7 @@ directory_more out new all start parts i part next pushed so_far =
     ap (λ (xs : List ℕ). xs ++ directory_bytes (start + length part.blocks) rest) pushed
     ∙ (append_assoc out (entry_bytes start part) (directory_bytes (start + length part.blocks) rest) ∙ (ap (λ (xs : List ℕ). out ++ xs) (sym step) ∙ so_far))
 
+-- all entries were put
 pub directory_end : (out all : List ℕ) (start : ℕ) (parts : List ImagePart) (i : ℕ) → drop i parts ≡ [] → out ++ directory_bytes start (drop i parts) ≡ all → out ≡ all
 unfolding directory_bytes
 directory_end out all start parts i none so_far = sym (append-nil out) ∙ (sym (ap (λ (ps : List ImagePart). out ++ directory_bytes start ps) none) ∙ so_far)
@@ -38,6 +40,7 @@ room_more start parts i part next room =
     ap (λ (ps : List ImagePart). length (block_bytes ps)) next ∙ length-append part.blocks (block_bytes (drop (i + 1) parts)) in
     omega (arith, step)
 
+-- and there is room for its own
 pub room_part : (start : ℕ) (parts : List ImagePart) (i : ℕ) (part : ImagePart) → drop i parts ≡ part ∷ drop (i + 1) parts → start + length (block_bytes (drop i parts)) ≤ 65536
     → start + length part.blocks ≤ 65536
 room_part start parts i part next room = omega (arith, room_more start parts i part next room)
@@ -55,6 +58,7 @@ block_bytes-length (part ∷ parts) all =
     let p : IsPart part = all.0 in
     omega (arith, length-append part.blocks (block_bytes parts), block_bytes-length parts all.1, sum_by-cons blocks_of part parts, p.whole)
 
+-- so a memory has four bytes an entry and nine a block
 pub memory_bytes-length : (base : ℕ) (parts : List ImagePart) → All IsPart parts → length (memory_bytes base parts) ≡ 4 * length parts + 9 * sum_by blocks_of parts
 memory_bytes-length base parts all =
     omega (arith, length-append (directory_bytes (base + 4 * length parts) parts) (block_bytes parts), directory_bytes-length (base + 4 * length parts) parts, block_bytes-length parts (recursion_from_All IsPart parts all))

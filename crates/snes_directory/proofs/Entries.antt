@@ -22,10 +22,12 @@ pub entries_begin : (bytes : List ℕ) (base : ℕ) (memory rates starts agains 
 unfolding entries_of
 entries_begin bytes base memory rates starts agains p q t = same_lists rates starts agains [] [] [] p q t
 
+-- the first 0 entries are none
 pub entries_of-zero : (bytes : List ℕ) (base : ℕ) (memory : List ℕ) → entries_of bytes base memory 0 ≡ Ok no_entries
 unfolding entries_of
 entries_of-zero bytes base memory = refl
 
+-- and the first n + 1 are one more than the first n
 pub entries_of-suc : (bytes : List ℕ) (base : ℕ) (memory : List ℕ) (n : ℕ) (before : EntryLists) (entry : Entry) → entries_of bytes base memory n ≡ Ok before → entry_of bytes base memory n ≡ Ok entry
     → entries_of bytes base memory (suc n) ≡ Ok (with_entry before entry)
 unfolding entries_of

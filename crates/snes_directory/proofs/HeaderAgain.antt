@@ -25,6 +25,7 @@ numbered_again bytes version entries base len a b c d one some few page room lon
     let many : nat_lt 64 entries ≡ false = le-ltb _ _ few in
     rw (a, b, c, d) rw (first, none, many, page) (sized_again bytes entries base len room long)
 
+-- a written header is read again where as much stands behind it as it tells of
 pub header_again : (base entries len : ℕ) (body : List ℕ) → 1 ≤ entries → entries ≤ 64 → is_base base ≡ true → base + len ≤ 65536 → length body ≡ 4 * entries + len
     → header_of (header_bytes base entries len ++ body) ≡ Ok (record { entries = entries; base = base })
 unfolding header_of header_bytes

@@ -87,6 +87,7 @@ went_on : {A B : Type 0} (r : Result A LayFault) (f : A → Result B LayFault) (
 went_on (Ok x) f y h = (x, refl, h)
 went_on (Err e) f y h = absurd (cc)
 
+-- a file that was written says the samples that it was written of
 pub written_again : (base : ℕ) (parts : List ImagePart) (file : List ℕ) → 1 ≤ length parts → length parts ≤ 64 → All IsPart parts → written_image base parts ≡ Ok file
     → image_of file ≡ Ok (image_from base parts)
 unfolding written_image

@@ -70,7 +70,7 @@ entry-has bytes base memory i entry h =
     let same : made rated.0 started.0 ended.0 ≡ entry = same_ok (made rated.0 started.0 ended.0) entry ended.2 in
     subst (λ (e : Entry). HasTrack memory e.start e.again) same (again_in-has base memory i started.0 ended.0 ended.1)
 
--- the entries so far
+-- n entries, each of which has a track in the memory
 pub record AreEntries (memory : List ℕ) (n : ℕ) (entries : EntryLists) : Type 0 where
   pub rates : length entries.rates ≡ n
   pub starts : length entries.starts ≡ n
@@ -93,6 +93,7 @@ entries-more memory n before entry so_far here = record {
   ];
 }
 
+-- the first n entries that are read are so
 pub entries_of-are : (bytes : List ℕ) (base : ℕ) (memory : List ℕ) (n : ℕ) (entries : EntryLists) → entries_of bytes base memory n ≡ Ok entries → AreEntries memory n entries
 unfolding entries_of
 entries_of-are bytes base memory zero entries h =

@@ -7,6 +7,7 @@ use Rattle.snes_directory.specs.declared.part.ImagePart.{ImagePart}
 use Rattle.snes_directory.specs.Part.{blocks_of, loop_address, track_in, IsPart}
 use Rattle.snes_directory.proofs.Tracks.{IsClosed, track_of-closed}
 
+-- its blocks alone are a closed track
 pub part-closed : (part : ImagePart) → IsPart part → IsClosed part.blocks 0 (loop_address 0 part.loop_block) (track_in part)
 part-closed part p = track_of-closed part.blocks 0 (loop_address 0 part.loop_block) (track_in part) p.track
 
@@ -14,6 +15,7 @@ part-closed part p = track_of-closed part.blocks 0 (loop_address 0 part.loop_blo
 pub last-is : (part : ImagePart) (p : IsPart part) → suc (part-closed part p).last ≡ blocks_of part
 last-is part p = ap (λ (t : Track). t.blocks) (part-closed part p).is
 
+-- so it has at least one
 pub some_blocks : (part : ImagePart) → IsPart part → 1 ≤ blocks_of part
 some_blocks part p = omega (arith, last-is part p)
 
@@ -22,7 +24,7 @@ chosen : (b : Bool) (n l : ℕ) → cond b (Some n) None ≡ Some l → b ≡ tr
 chosen true n l h = refl
 chosen false n l h = cc
 
--- its loop block is one of its blocks
+-- its loop block is one of its blocks, by whether it has one
 loop_in : (part : ImagePart) (o : Option ℕ) → IsPart part → part.loop_block ≡ o → IfSome o (λ l. l < blocks_of part)
 loop_in part None p e = tt
 loop_in part (Some l) p e =
@@ -37,10 +39,11 @@ loop_in part (Some l) p e =
     let place : again ≡ 0 + 9 * l = ap (loop_address 0) e in
     omega (arith, below, place, last-is part p)
 
+-- its loop block is one of its blocks
 pub loop_block-within : (part : ImagePart) → IsPart part → IfSome part.loop_block (λ l. l < blocks_of part)
 loop_block-within part p = loop_in part part.loop_block p refl
 
--- its addresses lie below the end of its blocks
+-- where its blocks lie in the memory, so does its start
 pub start_fits : (part : ImagePart) (at : ℕ) → IsPart part → at + length part.blocks ≤ 65536 → at < 65536
 start_fits part at p h = omega (arith, some_blocks part p, p.whole)
 
@@ -48,5 +51,6 @@ again_below : (at blocks : ℕ) (o : Option ℕ) → 1 ≤ blocks → IfSome o (
 again_below at blocks None some within = omega arith
 again_below at blocks (Some l) some within = omega arith
 
+-- and so does the address where its player goes on
 pub again_fits : (part : ImagePart) (at : ℕ) → IsPart part → at + length part.blocks ≤ 65536 → loop_address at part.loop_block < 65536
 again_fits part at p h = omega (arith, again_below at (blocks_of part) part.loop_block (some_blocks part p) (loop_block-within part p), p.whole)

@@ -22,6 +22,7 @@ pub record HasSplit (parts : List ImagePart) (n : ℕ) : Type 0 where
   pub is : parts ≡ take n parts ++ (part ∷ after)
   pub more : take (suc n) parts ≡ take n parts ++ part ∷ []
 
+-- there is one at each place
 pub split-at : (parts : List ImagePart) (n : ℕ) → n < length parts → HasSplit parts n
 split-at [] n less = absurd (omega arith)
 split-at (part ∷ parts) zero less = record { part = part; after = parts; is = refl; more = refl }
@@ -36,14 +37,15 @@ split-part parts before part after is all =
     let less : length before < length parts = omega (arith, ap (λ (ps : List ImagePart). length ps) is, length-append before (part ∷ after)) in
     subst IsPart here (All-get_or IsPart parts (length before) part less all)
 
--- rates and blocks
+-- the rates, split at a sample
 pub rates-split : (before : List ImagePart) (part : ImagePart) (after : List ImagePart) → flat_map rate_bytes (before ++ (part ∷ after)) ≡ flat_map rate_bytes before ++ (rate_bytes part ++ flat_map rate_bytes after)
 rates-split before part after = flat_map-append rate_bytes before (part ∷ after)
 
+-- the blocks, split at a sample
 pub blocks-split : (before : List ImagePart) (part : ImagePart) (after : List ImagePart) → block_bytes (before ++ (part ∷ after)) ≡ block_bytes before ++ (part.blocks ++ block_bytes after)
 blocks-split before part after = flat_map-append (λ (p : ImagePart). p.blocks) before (part ∷ after)
 
--- a directory
+-- a directory, split at a sample
 pub directory-split : (start : ℕ) (before : List ImagePart) (part : ImagePart) (after : List ImagePart)
     → directory_bytes start (before ++ (part ∷ after)) ≡ directory_bytes start before ++ (entry_bytes (start + bytes_of before) part ++ directory_bytes (start + bytes_of before + length part.blocks) after)
 unfolding directory_bytes
@@ -62,7 +64,7 @@ pub rates-length : (parts : List ImagePart) → length (flat_map rate_bytes part
 rates-length [] = refl
 rates-length (part ∷ parts) = omega (arith, rates-length parts)
 
--- the lists of entries, one more
+-- the addresses in a directory, one more
 starts-more : (start : ℕ) (before : List ImagePart) (part : ImagePart) → starts_in start (before ++ part ∷ []) ≡ starts_in start before ++ (start + bytes_of before) ∷ []
 starts-more start [] part = let none : start ≡ start + 0 = omega arith in ap (λ n. n ∷ []) none
 starts-more start (first ∷ before) part =
@@ -76,6 +78,7 @@ agains-more start (first ∷ before) part =
     ap (λ (xs : List ℕ). loop_address start first.loop_block ∷ xs) (agains-more (start + length first.blocks) before part)
     ∙ ap (λ n. loop_address start first.loop_block ∷ (agains_in (start + length first.blocks) before ++ loop_address n part.loop_block ∷ [])) place
 
+-- the entries, one more
 pub entries-more : (start : ℕ) (before : List ImagePart) (part : ImagePart)
     → entries_in start (before ++ part ∷ []) ≡ with_entry (entries_in start before) (record { rate = part.rate; start = start + bytes_of before; again = loop_address (start + bytes_of before) part.loop_block })
 entries-more start before part =

@@ -65,6 +65,7 @@ implied false b h = refl
 abbrev pub track_at : List ℕ → ℕ → ImagePart → Track
 track_at memory start part = record { memory = memory; start = start; again = loop_address start part.loop_block; blocks = blocks_of part }
 
+-- it is read as that track
 pub track_again : (memory : List ℕ) (start : ℕ) (part : ImagePart) → IsPart part → LieAt memory start part.blocks → track_of memory start (loop_address start part.loop_block) ≡ Ok (track_at memory start part)
 unfolding track_of
 track_again memory start part p lie =

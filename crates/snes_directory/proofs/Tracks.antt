@@ -29,6 +29,7 @@ closed_from memory start again (Some last) track e h =
     let test = passed (repeats && not (is_block start (suc last) again)) (BadAgain again) whole track h in
     record { last = last; end = e; again_fits = other_fails repeats (is_block start (suc last) again) test.0; is = test.1 }
 
+-- a track that was read is closed
 pub track_of-closed : (memory : List ℕ) (start again : ℕ) (track : Track) → track_of memory start again ≡ Ok track → IsClosed memory start again track
 unfolding track_of
 track_of-closed memory start again track h = closed_from memory start again (end_block memory start) track refl h

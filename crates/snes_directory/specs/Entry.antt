@@ -30,6 +30,7 @@ abbrev pub entry_fault : ℕ → TrackFault → ImageFault
 entry_fault i (NoEnd at) = BadEntry i
 entry_fault i (BadAgain at) = BadLoopAddress i
 
+-- a track, or its fault as the fault of an entry
 abbrev pub tracked : ℕ → Result Track TrackFault → Result Track ImageFault
 tracked i (Ok track) = Ok track
 tracked i (Err fault) = Err (entry_fault i fault)
@@ -45,6 +46,7 @@ again_in base memory i start = do
   track ← tracked i (track_of memory start (again_place base start (number2_at memory (4 * i + 2))))
   again_of i base start (number2_at memory (4 * i + 2)) (loop_block_of track)
 
+-- entry i of a file with this base and memory, or its first fault
 unfoldable pub entry_of : List ℕ → ℕ → List ℕ → ℕ → Result Entry ImageFault
 entry_of bytes base memory i = do
   rate ← rate_of bytes i

@@ -25,6 +25,7 @@ sized_header bytes entries base len =
     else (if not (length bytes == memory_place entries + len) then Err (ImageLength (length bytes) (memory_place entries + len))
     else Ok (record { entries = entries; base = base }))
 
+-- the header that its numbers say, or the first of them that is refused
 unfoldable pub numbered_header : List ℕ → Result Header ImageFault
 numbered_header bytes =
     if not (number2_at bytes 4 == 1) then Err (BadVersion (number2_at bytes 4))
@@ -32,6 +33,7 @@ numbered_header bytes =
     else (if not (is_base (number4_at bytes 8)) then Err (BadBase (number4_at bytes 8))
     else sized_header bytes (number2_at bytes 6) (number4_at bytes 8) (number4_at bytes 12)))
 
+-- the header of a file, or its first fault
 unfoldable pub header_of : List ℕ → Result Header ImageFault
 header_of bytes =
     if nat_lt (length bytes) 16 || not (bytes_eq (take 4 bytes) (codes "SNBI")) then Err NotImage

@@ -9,6 +9,7 @@ use Rattle.snes_directory.specs.declared.image.Image.{Image}
 use Rattle.snes_directory.specs.Header.{header_of, memory_place}
 use Rattle.snes_directory.specs.Entry.{entry_of}
 
+-- no entry so far
 abbrev pub no_entries : EntryLists
 no_entries = record { rates = []; starts = []; agains = [] }
 
@@ -28,6 +29,7 @@ entries_of bytes base memory (suc n) = do
   entry ← entry_of bytes base memory n
   Ok (with_entry before entry)
 
+-- the image of this base, memory and entries
 abbrev pub image_with : ℕ → List ℕ → EntryLists → Image
 image_with base memory entries = record { base = base; rates = entries.rates; memory = memory; starts = entries.starts; agains = entries.agains }
 

@@ -12,6 +12,7 @@ use Rattle.snes_directory.specs.Part.{blocks_of, loop_address}
 unfoldable pub header_bytes : ℕ → ℕ → ℕ → List ℕ
 header_bytes base entries len = codes "SNBI" ++ (little_bytes 2 1 ++ (little_bytes 2 entries ++ (little_bytes 4 base ++ little_bytes 4 len)))
 
+-- the four bytes of a sample's rate
 abbrev pub rate_bytes : ImagePart → List ℕ
 rate_bytes part = little_bytes 4 part.rate
 
@@ -32,6 +33,7 @@ block_bytes parts = flat_map (λ part. part.blocks) parts
 abbrev pub memory_bytes : ℕ → List ImagePart → List ℕ
 memory_bytes base parts = directory_bytes (base + 4 * length parts) parts ++ block_bytes parts
 
+-- the file of these samples, whether or not they fit
 unfoldable pub image_file : ℕ → List ImagePart → List ℕ
 image_file base parts = header_bytes base (length parts) (length (memory_bytes base parts)) ++ (flat_map rate_bytes parts ++ memory_bytes base parts)
 

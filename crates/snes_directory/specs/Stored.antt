@@ -17,9 +17,10 @@ abbrev pub agains_in : ℕ → List ImagePart → List ℕ
 agains_in start [] = []
 agains_in start (part ∷ parts) = loop_address start part.loop_block ∷ agains_in (start + length part.blocks) parts
 
+-- the entries of these samples
 abbrev pub entries_in : ℕ → List ImagePart → EntryLists
 entries_in start parts = record { rates = map (λ part. part.rate) parts; starts = starts_in start parts; agains = agains_in start parts }
 
--- they begin behind their directory
+-- the image of these samples, which begin behind their directory
 abbrev pub image_from : ℕ → List ImagePart → Image
 image_from base parts = image_with base (memory_bytes base parts) (entries_in (4 * length parts) parts)

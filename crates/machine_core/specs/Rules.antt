@@ -61,4 +61,5 @@ pub record IsMachine (r : Rules) : Type 0 where
   pub whole_is_box : IsTrue (r.is_box 0 r.whole)
   -- and holds every state
   pub whole_holds : (at : State) → IsTrue (r.decoder.is_state at) → InBox at r.whole
+  -- no format needs more than 89 numbers at a place: the floors of IMA ADPCM go by its 89 step indices
   pub tables_small : r.floor_len ≤ 89 * (r.decoder.samples + 1)

@@ -3,3 +3,4 @@ pub mod LeastLaws
 pub mod FirstLaws
 pub mod NearestLaws
 pub mod SpanLaws
+pub mod OutcomeLaws

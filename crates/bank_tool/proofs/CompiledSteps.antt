@@ -2,6 +2,7 @@
 use Rattle.std.proofs.Common.{◌≡◌, ℕ, ◌+◌, ◌*◌, List, [], ◌∷◌, ◌++◌, length, map, refl, sym, ap, subst, ◌∙◌, arith, Result, Ok, Err}
 use Rattle.std.proofs.lemmas.Grind.{common_steps}
 use Rattle.adpcm_nums.specs.Outcome.{◌>>=◌}
+use Rattle.adpcm_nums.proofs.OutcomeLaws.{went_on}
 use Rattle.host_files.specs.Outside.{World, Files, raised}
 use Rattle.loop_fit.specs.declared.rule.FitRule.{FitRule}
 use Rattle.manifest_reader.specs.declared.manifest.SampleEntry.{SampleEntry}
@@ -20,39 +21,35 @@ use Rattle.bank_tool.specs.Compile.{each_of, meaning_in, source_in, source_readi
 use Rattle.bank_tool.specs.Compiled.{HasCompiled, AnswersCompile}
 use Rattle.bank_tool.proofs.BankSteps.{names_stored}
 
--- a value that comes of two readings comes of the second, after the first went well
-ok_after : {X Y E : Type 0} (r : Result X E) (f : X → Result Y E) (y : Y) (P : Type 0) → ((x : X) → r ≡ Ok x → f x ≡ Ok y → P) → (r >>= f) ≡ Ok y → P
-ok_after (Ok x) f y P each e = each x refl e
-ok_after (Err s) f y P each e = let no : ⊥ = cc in absurd no
-
 -- a source has the name of its entry
 source_name : (rule : FitRule) (entry : SampleEntry) (bytes : List ℕ) (source : Source) → source_of rule entry bytes ≡ Ok source → source.name ≡ entry.name
 unfolding source_of
 source_name rule entry bytes source e =
-    ok_after (sound_in entry bytes) _ source (source.name ≡ entry.name)
-    (λ wave w e2. ok_after (loop_in entry wave) _ source (source.name ≡ entry.name)
-    (λ at a e3. ok_after (fit_in rule entry wave at) (λ fitted. Ok (record { name = entry.name; rate = wave.rate; fitted = fitted })) source (source.name ≡ entry.name)
-    (λ fitted f e4. let same : source ≡ record { name = entry.name; rate = wave.rate; fitted = fitted } = cc in ap (λ (s : Source). s.name) same) e3) e2) e
+    let wave = went_on (sound_in entry bytes) _ source e in
+    let at = went_on (loop_in entry wave.0) _ source wave.2 in
+    let fitted = went_on (fit_in rule entry wave.0 at.0) (λ fitted. Ok (record { name = entry.name; rate = wave.0.rate; fitted = fitted })) source at.2 in
+    let same : source ≡ record { name = entry.name; rate = wave.0.rate; fitted = fitted.0 } = (let last = fitted.2 in cc) in
+    ap (λ (s : Source). s.name) same
 
 -- what is seen alike in each element and in what was read of it is seen alike in the lists
 each_alike : {X Y Z E : Type 0} (f : X → Result Y E) (g : Y → Z) (h : X → Z) (xs : List X) (ys : List Y) → ((x : X) (y : Y) → f x ≡ Ok y → g y ≡ h x) → each_of f xs ≡ Ok ys → map g ys ≡ map h xs
 unfolding each_of
 each_alike f g h [] ys each e = let none : ys ≡ [] = cc in ap (map g) none
 each_alike f g h (x ∷ xs) ys each e =
-    ok_after (f x) _ ys (map g ys ≡ h x ∷ map h xs)
-    (λ y one e2. ok_after (each_of f xs) (λ zs. Ok (y ∷ zs)) ys (map g ys ≡ h x ∷ map h xs)
-    (λ zs more e3. let same : ys ≡ y ∷ zs = cc in ap (map g) same ∙ ap (λ v. v ∷ map g zs) (each x y one) ∙ ap (λ vs. h x ∷ vs) (each_alike f g h xs zs each more)) e2) e
+    let one = went_on (f x) _ ys e in
+    let more = went_on (each_of f xs) (λ zs. Ok (one.0 ∷ zs)) ys one.2 in
+    let same : ys ≡ one.0 ∷ more.0 = (let last = more.2 in cc) in
+    ap (map g) same ∙ ap (λ v. v ∷ map g more.0) (each x one.0 one.1) ∙ ap (λ vs. h x ∷ vs) (each_alike f g h xs more.0 each more.1)
 
 -- where nothing is refused, each file is fetched
 each_fetched : {X Y : Type 0} (name : X → List ℕ) (read : X → Result Y Status) (xs : List X) (ys : List Y) → each_of read xs ≡ Ok ys → read_each (λ x. tested_reading (name x) (read x)) xs ≡ record { calls = map (λ x. Fetch (name x)) xs; outcome = Done }
 unfolding each_of read_each
 each_fetched name read [] ys e = refl
 each_fetched {Y = Y} name read (x ∷ xs) ys e =
-    let rest = read_each (λ x. tested_reading (name x) (read x)) xs in
-    let all : Reading = record { calls = Fetch (name x) ∷ map (λ x. Fetch (name x)) xs; outcome = Done } in
-    ok_after (read x) _ ys (then_read (tested_reading (name x) (read x)) rest ≡ all)
-    (λ y one e2. ok_after (each_of read xs) (λ zs. Ok (y ∷ zs)) ys (then_read (tested_reading (name x) (read x)) rest ≡ all)
-    (λ zs more e3. ap (λ (r : Result Y Status). then_read (tested_reading (name x) r) rest) one ∙ ap (λ (c : Reading). then_read (tested_reading (name x) (Ok y)) c) (each_fetched name read xs zs more)) e2) e
+    let one = went_on (read x) _ ys e in
+    let more = went_on (each_of read xs) (λ zs. Ok (one.0 ∷ zs)) ys one.2 in
+    ap (λ (r : Result Y Status). then_read (tested_reading (name x) r) (read_each (λ x. tested_reading (name x) (read x)) xs)) one.1
+    ∙ ap (λ (c : Reading). then_read (tested_reading (name x) (Ok one.0)) c) (each_fetched name read xs more.0 more.1)
 
 -- files that were fetched, a test, and then files that are stored and a line
 counted : (c : Reading) (s : Status) (fetches : List HostCall) (names : List (List ℕ)) → c ≡ record { calls = fetches; outcome = Done } → length ((then_read c (decided s)).calls ++ writing_calls names) ≡ length fetches + length names + 1

@@ -49,7 +49,8 @@ waits_on n m a b d w v = record {
   calls = let x = w.calls in let y = v.calls in omega arith;
 }
 
-waits_none : (a : World) → Waits 0 a a
+-- no call was made
+pub waits_none : (a : World) → Waits 0 a a
 waits_none a = record { files = refl; said = refl; later = omega arith; calls = omega arith }
 
 -- nothing read yet

@@ -12,7 +12,7 @@ use Rattle.command_plan.specs.Reading.{Reading, decided, fetched, whole_reading}
 use Rattle.command_plan.specs.Steps.{Waits, HasRead, Halts}
 use Rattle.command_plan.proofs.Fronts.{longer, as_long}
 use Rattle.command_plan.proofs.Cases.{either}
-use Rattle.command_plan.proofs.Readings.{halts_short, halts_declined}
+use Rattle.command_plan.proofs.Readings.{waits_none, halts_short, halts_declined}
 
 -- one call was made
 pub waits_once : (a b : World) → b.files ≡ a.files → b.said ≡ a.said → a.faults ≤ b.faults → b.calls ≡ raised 1 a.calls → Waits 1 a b
@@ -40,9 +40,6 @@ too_long files name ys most fault s a b w e h one =
 pub is_read : (files : Files) (name ys : List ℕ) (most : ℕ) (fault : InputFault) (a b : World) → Waits 1 a b → ys ≡ take (most + 1) (content_of files name) → length ys ≤ most → HasRead (whole_reading files name most fault) a b
 is_read files name ys most fault a b w e h =
     record { outcome = cond-false _ _ _ (le-ltb most _ (as_long most (content_of files name) ys e h)); quiet = w }
-
-waits_none : (a : World) → Waits 0 a a
-waits_none a = record { files = refl; said = refl; later = omega arith; calls = omega arith }
 
 -- a test that passes
 pub decides : (o : Status) (a : World) → o ≡ Done → HasRead (decided o) a a

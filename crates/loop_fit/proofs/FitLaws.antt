@@ -12,6 +12,7 @@ use Rattle.adpcm_nums.specs.Outcome.{◌>>=◌}
 use Rattle.adpcm_nums.specs.Round.{round_of}
 use Rattle.adpcm_nums.specs.Sample.{IsSample, AreSamples}
 use Rattle.adpcm_nums.specs.declared.loop_at.LoopAt.{LoopAt}
+use Rattle.adpcm_nums.proofs.OutcomeLaws.{went_on}
 use Rattle.machine_core.specs.declared.state.Kind.{Kind}
 use Rattle.machine_core.specs.declared.state.Kind.TheVariants.{Brr, Spu, Ima}
 use Rattle.loop_fit.specs.declared.plan.Plan.{Plan}
@@ -22,7 +23,7 @@ use Rattle.loop_fit.specs.Source.{IsLoopIn, IsBlockOf, IsSource}
 use Rattle.loop_fit.specs.Plan.{plan_of}
 use Rattle.loop_fit.specs.Align.{block_loop, frame_loop, loop_length}
 use Rattle.loop_fit.specs.Fit.{delayed, target_of, targets_of, points_in, fitted_of, fit_of, GoesRound, HasTargets, IsWhole}
-use Rattle.loop_fit.proofs.PlanFacts.{IsSized, IsOncePlan, IsLoopPlan, IsPlan, plan_of-is, went_on, same_ok}
+use Rattle.loop_fit.proofs.PlanFacts.{IsSized, IsOncePlan, IsLoopPlan, IsPlan, plan_of-is, same_ok}
 use Rattle.loop_fit.proofs.RoundLaws.{target-at, block_round, once_round, frame_round}
 
 -- the targets of a plan, played with their loop for ever

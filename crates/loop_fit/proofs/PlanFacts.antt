@@ -7,6 +7,7 @@ use Rattle.std.proofs.lemmas.Nat.{div-add-mod'}
 use Rattle.std.proofs.lemmas.Grind.{div_ceil_times}
 use Rattle.adpcm_nums.specs.Outcome.{◌>>=◌}
 use Rattle.adpcm_nums.specs.declared.loop_at.LoopAt.{LoopAt}
+use Rattle.adpcm_nums.proofs.OutcomeLaws.{went_on}
 use Rattle.loop_fit.specs.declared.rule.FitRule.{FitRule}
 use Rattle.loop_fit.specs.declared.rule.Length.{Length}
 use Rattle.loop_fit.specs.declared.rule.Length.TheVariants.{Exact, Unroll}
@@ -46,11 +47,6 @@ same_ok x y h = cc
 both_fail : (a b : Bool) → (a || b) ≡ false → (a ≡ false) × (b ≡ false)
 both_fail true b h = (cc, cc)
 both_fail false b h = (refl, h)
-
--- what went on was Ok
-pub went_on : {A B : Type 0} (r : Result A FitFault) (f : A → Result B FitFault) (y : B) → (r >>= f) ≡ Ok y → (x : A) × (r ≡ Ok x) × (f x ≡ Ok y)
-went_on (Ok x) f y h = (x, refl, h)
-went_on (Err e) f y h = absurd (cc)
 
 sized-is : (block blocks n : ℕ) → sized block blocks ≡ Ok n → (blocks ≡ n) × IsSized block n
 unfolding sized

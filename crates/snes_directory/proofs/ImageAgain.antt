@@ -5,6 +5,7 @@ use Rattle.std.specs.List.{flat_map, sum_by}
 use Rattle.std.proofs.lemmas.Bool.{ltb-false}
 use Rattle.std.proofs.lemmas.List.{length-take-le, take_all, drop_at}
 use Rattle.adpcm_nums.specs.Outcome.{◌>>=◌}
+use Rattle.adpcm_nums.proofs.OutcomeLaws.{went_on}
 use Rattle.snes_directory.specs.declared.part.ImagePart.{ImagePart}
 use Rattle.snes_directory.specs.declared.fault.LayFault.{LayFault}
 use Rattle.snes_directory.specs.declared.fault.LayFault.TheVariants.{BadBase, ImageFull}
@@ -82,10 +83,6 @@ end_of-ok base entries blocks total h =
     let first = passed (not (is_base base)) (BadBase base) (cond (nat_lt 65536 sum) (Err (ImageFull sum)) (Ok sum)) total h in
     let second = passed (nat_lt 65536 sum) (ImageFull sum) (Ok sum) total first.1 in
     (shown (is_base base) first.0, ltb-false _ _ second.0)
-
-went_on : {A B : Type 0} (r : Result A LayFault) (f : A → Result B LayFault) (y : B) → (r >>= f) ≡ Ok y → (x : A) × (r ≡ Ok x) × (f x ≡ Ok y)
-went_on (Ok x) f y h = (x, refl, h)
-went_on (Err e) f y h = absurd (cc)
 
 -- a file that was written says the samples that it was written of
 pub written_again : (base : ℕ) (parts : List ImagePart) (file : List ℕ) → 1 ≤ length parts → length parts ≤ 64 → All IsPart parts → written_image base parts ≡ Ok file

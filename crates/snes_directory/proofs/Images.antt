@@ -4,6 +4,7 @@ use Rattle.std.specs.Prelude.{nat_lt}
 use Rattle.std.proofs.lemmas.Bool.{cases_lt, cases_Bool}
 use Rattle.std.proofs.lemmas.List.{get_or_append_left, get_or_push, length_push}
 use Rattle.adpcm_nums.specs.Outcome.{◌>>=◌}
+use Rattle.adpcm_nums.proofs.OutcomeLaws.{went_on}
 use Rattle.player_model.specs.declared.fault.TrackFault.{TrackFault}
 use Rattle.player_model.specs.Track.{Track, track_of, loop_block_of}
 use Rattle.snes_directory.specs.declared.fault.ImageFault.{ImageFault}
@@ -14,11 +15,6 @@ use Rattle.snes_directory.specs.Header.{number2_at}
 use Rattle.snes_directory.specs.Entry.{rate_of, start_in, again_place, tracked, again_of, again_in, entry_of}
 use Rattle.snes_directory.specs.Reading.{no_entries, with_entry, entries_of, HasTrack}
 use Rattle.snes_directory.proofs.Tracks.{track_of-closed, track_of-once, once_from}
-
--- what went on was Ok
-went_on : {A B : Type 0} (r : Result A ImageFault) (f : A → Result B ImageFault) (y : B) → (r >>= f) ≡ Ok y → (x : A) × (r ≡ Ok x) × (f x ≡ Ok y)
-went_on (Ok x) f y h = (x, refl, h)
-went_on (Err e) f y h = absurd (cc)
 
 abbrev done : {A : Type 0} → A → Result A ImageFault
 done x = Ok x

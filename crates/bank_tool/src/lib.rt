@@ -31,6 +31,8 @@ pub use top::run;
 pub use words::{Command, read_words};
 
 #[cfg(test)]
+mod compile_tests;
+#[cfg(test)]
 mod play_tests;
 #[cfg(test)]
 mod tests;

@@ -1,0 +1,395 @@
+use super::{Status, run, run_compile};
+use byteorder::{ByteOrder, LittleEndian};
+use host_files::{Host, MemoryHost, SteadyHost};
+use std::alloc::Global;
+use std::test::Fail;
+
+/// A bank `b` of one sample `s`, whose file is `s.wav`.
+const ONE: &str = "format = 'brr'\nbank = 'b'\n[[sample]]\nname = 's'\nfile = 's.wav'\n";
+
+/// A bank at address 1,024 of two samples, of which the second is not to repeat.
+const TWO: &str =
+    "format = 'brr'\nbank = 'b'\nbase = 1024\nlength = 'unroll'\n[[sample]]\nname = 's'\nfile = 's.wav'\n[[sample]]\nname = 't'\nfile = 't.wav'\nloop = 'none'\n";
+
+/// Adds a number of 32 bits, the low byte first.
+fn push_number(bytes: &mut Vec<u8>, number: u32) -> Result<(), Fail> {
+    let mut four = [0; 4];
+    LittleEndian::write_u32(&mut four, number);
+    bytes.extend_from_slice(&four)?;
+    Ok(())
+}
+
+/// Adds a chunk: its name, its length and its bytes.
+fn push_chunk(file: &mut Vec<u8>, name: &[u8], body: &[u8]) -> Result<(), Fail> {
+    file.extend_from_slice(name)?;
+    push_number(file, body.len() as u32)?;
+    file.extend_from_slice(body)?;
+    Ok(())
+}
+
+/// The bytes of samples of 16 bits.
+fn sound(alloc: Global, samples: &[i16]) -> Result<Vec<u8>, Fail> {
+    let mut bytes = Vec::new(alloc);
+    for sample in samples {
+        let mut two = [0; 2];
+        LittleEndian::write_i16(&mut two, *sample);
+        bytes.extend_from_slice(&two)?;
+    }
+    Ok(bytes)
+}
+
+/// A sampler with one loop.
+fn sampler(alloc: Global, start: u32, end: u32) -> Result<Vec<u8>, Fail> {
+    let mut bytes = Vec::new(alloc);
+    for field in [0, 0, 31_250, 60, 0, 0, 0, 1, 0, 0, 0, start, end, 0, 0] {
+        push_number(&mut bytes, field)?;
+    }
+    Ok(bytes)
+}
+
+/// A WAVE file of one channel at 32,000 samples a second, with its loop behind the samples where it has one.
+fn wave(alloc: Global, samples: &[i16], at: Option<(u32, u32)>) -> Result<Vec<u8>, Fail> {
+    let form = [1, 0, 1, 0, 0x00, 0x7D, 0, 0, 0x00, 0xFA, 0, 0, 2, 0, 16, 0];
+    let mut body = Vec::from_slice(alloc, b"WAVE")?;
+    push_chunk(&mut body, b"fmt ", &form)?;
+    push_chunk(&mut body, b"data", sound(alloc, samples)?.as_slice())?;
+    if let Some((start, end)) = at {
+        push_chunk(&mut body, b"smpl", sampler(alloc, start, end)?.as_slice())?;
+    }
+    let mut file = Vec::new(alloc);
+    push_chunk(&mut file, b"RIFF", body.as_slice())?;
+    Ok(file)
+}
+
+/// A WAVE file of so many equal samples with no loop.
+fn constant(alloc: Global, value: i16, frames: usize) -> Result<Vec<u8>, Fail> {
+    let mut samples = Vec::new(alloc);
+    for _frame in 0..frames {
+        samples.push(value)?;
+    }
+    wave(alloc, samples.as_slice(), None)
+}
+
+/// A file that begins with some bytes and goes on with spaces.
+fn spaced(alloc: Global, front: &[u8], len: usize) -> Result<Vec<u8>, Fail> {
+    let mut bytes = Vec::from_slice(alloc, front)?;
+    for _space in front.len()..len {
+        bytes.push(b' ')?;
+    }
+    Ok(bytes)
+}
+
+/// An image at address 512 of one sample. The address of its loop has the low byte `again`.
+fn image(alloc: Global, again: u8, blocks: &[u8]) -> Result<Vec<u8>, Fail> {
+    let mut bytes = Vec::from_slice(alloc, b"SNBI\x01\0\x01\0\0\x02\0\0")?;
+    push_number(&mut bytes, (4 + blocks.len()) as u32)?;
+    bytes.extend_from_slice(&[0x00, 0x7D, 0, 0, 0x04, 0x02, again, 0x02])?;
+    bytes.extend_from_slice(blocks)?;
+    Ok(bytes)
+}
+
+/// A host with a manifest `m.toml` and a file `s.wav`.
+fn host_with(alloc: Global, manifest: &[u8], source: &[u8]) -> Result<SteadyHost, Fail> {
+    let mut host = SteadyHost::new(alloc);
+    host.put("m.toml", manifest).map_err(|_| "memory")?;
+    host.put("s.wav", source).map_err(|_| "memory")?;
+    Ok(host)
+}
+
+/// The code of `compile` with the name of a manifest.
+fn code_of<H: Host>(alloc: Global, host: &mut H, manifest: &str) -> Result<u8, Fail> {
+    let mut words = Vec::new(alloc);
+    words.push(String::from_str(alloc, "compile")?)?;
+    words.push(String::from_str(alloc, manifest)?)?;
+    Ok(run(alloc, host, words.as_slice()).code())
+}
+
+#[test]
+fn makes_banks(rt: HostRuntime) -> Result<(), Fail> {
+    let alloc = rt.alloc();
+    let rows: [(&[i16], Option<(u32, u32)>, &[i16], u8, &[u8], &str); 4] = [
+        (
+            &[0; 16],
+            Some((0, 15)),
+            &[0; 16],
+            0x04,
+            &[3, 0, 0, 0, 0, 0, 0, 0, 0],
+            "sample s blocks 1 loop 0 error 0 bound 0 gap 0 levels 0 0 0 1 optimal\ndone 1 samples 2 files\n",
+        ),
+        (
+            &[0; 48],
+            Some((16, 47)),
+            &[0; 48],
+            0x0D,
+            &[
+                0, 0, 0, 0, 0, 0, 0, 0, 0, 0, 0, 0, 0, 0, 0, 0, 0, 0, 3, 0, 0, 0, 0, 0, 0, 0, 0,
+            ],
+            "sample s blocks 3 loop 1 error 0 bound 0 gap 0 levels 0 0 0 2 optimal\ndone 1 samples 2 files\n",
+        ),
+        (
+            &[1; 16],
+            None,
+            &[0; 16],
+            0x04,
+            &[1, 0, 0, 0, 0, 0, 0, 0, 0],
+            "sample s blocks 1 loop none error 16 bound 16 gap 0 levels 0 0 0 1 optimal\ndone 1 samples 2 files\n",
+        ),
+        // The floor of shift 11 and filter 1 is 0, which no block reaches.
+        (
+            &[
+                0, 0, 0, 0, 0, 0, 0, 0, 0, 0, 0, 0, 0, 0, 0, 0, 2, 6144, 2, 6144, 2, 6144, 2, 6144,
+                2, 6144, 2, 6144, 2, 6144, 2, 6144,
+            ],
+            None,
+            &[
+                0, 0, 0, 0, 0, 0, 0, 0, 0, 0, 0, 0, 0, 0, 0, 0, 0, 6144, 0, 6144, 0, 6144, 0, 6144,
+                0, 6144, 0, 6144, 0, 6144, 0, 6144,
+            ],
+            0x04,
+            &[0, 0, 0, 0, 0, 0, 0, 0, 0, 0xA1, 6, 6, 6, 6, 6, 6, 6, 6],
+            "sample s blocks 2 loop none error 32 bound 0 gap 32 levels 0 0 0 1\ndone 1 samples 2 files\n",
+        ),
+    ];
+    for (samples, at, first, again, blocks, lines) in rows {
+        let source = wave(alloc, samples, at)?;
+        let mut host = host_with(alloc, ONE.as_bytes(), source.as_slice())?;
+        assert_eq!(rt; code_of(alloc, &mut host, "m.toml")?, 0);
+        assert_eq!(rt; host.said(), lines.as_bytes());
+        assert_eq!(rt;
+            host.file("b").ok_or("no image")?,
+            image(alloc, again, blocks)?.as_slice()
+        );
+        let pass = host.file("b.s.first.wav").ok_or("no first pass")?;
+        assert_eq!(rt; pass, wave(alloc, first, at)?.as_slice());
+    }
+    Ok(())
+}
+
+#[test]
+fn makes_a_bank_of_two_samples(rt: HostRuntime) -> Result<(), Fail> {
+    let alloc = rt.alloc();
+    let source = wave(alloc, &[0; 24], Some((0, 23)))?;
+    let mut host = host_with(alloc, TWO.as_bytes(), source.as_slice())?;
+    host.put("t.wav", wave(alloc, &[1; 16], Some((0, 15)))?.as_slice())
+        .map_err(|_| "memory")?;
+    assert!(rt; matches!(run_compile(alloc, &mut host, "m.toml"), Status::Done));
+    assert_eq!(rt;
+        host.said(),
+        "sample s blocks 3 loop 0 error 0 bound 0 gap 0 levels 0 0 0 1 optimal\nsample t blocks 1 loop none error 16 bound 16 gap 0 levels 0 0 0 1 optimal\ndone 2 samples 3 files\n".as_bytes()
+    );
+    assert_eq!(rt;
+        host.file("b").ok_or("no image")?,
+        b"SNBI\x01\0\x02\0\0\x04\0\0\x2C\0\0\0\0\x7D\0\0\0\x7D\0\0\x08\x04\x08\x04\x23\x04\x23\x04\0\0\0\0\0\0\0\0\0\0\0\0\0\0\0\0\0\0\x03\0\0\0\0\0\0\0\0\x01\0\0\0\0\0\0\0\0".as_slice()
+    );
+    let first = host.file("b.s.first.wav").ok_or("no first pass")?;
+    assert_eq!(rt; first, wave(alloc, &[0; 48], Some((0, 47)))?.as_slice());
+    let second = host.file("b.t.first.wav").ok_or("no first pass")?;
+    assert_eq!(rt; second, wave(alloc, &[0; 16], None)?.as_slice());
+    Ok(())
+}
+
+#[test]
+fn sums_over_long_sounds(rt: HostRuntime) -> Result<(), Fail> {
+    let alloc = rt.alloc();
+    for (value, lines) in [
+        (
+            0,
+            "sample s blocks 65 loop none error 0 bound 0 gap 0 levels 0 0 0 1 optimal\ndone 1 samples 2 files\n",
+        ),
+        (
+            1,
+            "sample s blocks 65 loop none error 1040 bound 1040 gap 0 levels 0 0 0 1 optimal\ndone 1 samples 2 files\n",
+        ),
+    ] {
+        let source = constant(alloc, value, 1040)?;
+        let mut host = host_with(alloc, ONE.as_bytes(), source.as_slice())?;
+        assert_eq!(rt; code_of(alloc, &mut host, "m.toml")?, 0);
+        assert_eq!(rt; host.said(), lines.as_bytes());
+    }
+    Ok(())
+}
+
+#[test]
+fn refuses_manifests(rt: HostRuntime) -> Result<(), Fail> {
+    let alloc = rt.alloc();
+    for (name, manifest, line) in [
+        (
+            "m.toml",
+            "format = 'brr'\nbank = 'b'\n[[sample]]\nname = 's'\nfile = 's.wav'\n[[sample]]\nname = 's'\nfile = 't.wav'\n",
+            "fault 3 manifest SameName s\n",
+        ),
+        (
+            "m.toml",
+            "format = 'spu'\nbank = 'b'\n[[sample]]\nname = 's'\nfile = 's.wav'\n",
+            "fault 3 manifest BadWord format\n",
+        ),
+        (
+            "m.toml",
+            "format = 'brr'\nbank = 'b'\n[[sample]]\nname = 's'\nfile = 'b'\n",
+            "fault 3 manifest Clash b\n",
+        ),
+        ("b", ONE, "fault 3 manifest Clash b\n"),
+    ] {
+        let source = wave(alloc, &[0; 16], None)?;
+        let mut host = host_with(alloc, b"", source.as_slice())?;
+        host.put(name, manifest.as_bytes()).map_err(|_| "memory")?;
+        assert_eq!(rt; code_of(alloc, &mut host, name)?, 3);
+        assert_eq!(rt; host.said(), line.as_bytes());
+        assert!(rt; host.file("b.s.first.wav").is_none());
+    }
+    Ok(())
+}
+
+#[test]
+fn refuses_sources(rt: HostRuntime) -> Result<(), Fail> {
+    let alloc = rt.alloc();
+    let rows: [(Vec<u8>, u8, &str); 5] = [
+        (
+            wave(alloc, &[0; 16], Some((0, 16)))?,
+            4,
+            "fault 4 s LoopOutside 16 16\n",
+        ),
+        (spaced(alloc, b"RIF", 60)?, 4, "fault 4 s NotRiff\n"),
+        (wave(alloc, &[], None)?, 5, "fault 5 s EmptySample\n"),
+        (
+            wave(alloc, &[0; 24], Some((0, 23)))?,
+            5,
+            "fault 5 s LoopLength 24 16\n",
+        ),
+        (constant(alloc, 0, 65_537)?, 5, "fault 5 s TooLong 4097\n"),
+    ];
+    for (source, code, line) in rows {
+        let mut host = host_with(alloc, ONE.as_bytes(), source.as_slice())?;
+        assert_eq!(rt; code_of(alloc, &mut host, "m.toml")?, code);
+        assert_eq!(rt; host.said(), line.as_bytes());
+        assert!(rt; host.file("b").is_none());
+        assert!(rt; host.file("b.s.first.wav").is_none());
+    }
+    Ok(())
+}
+
+#[test]
+fn reads_manifests_up_to_a_length(rt: HostRuntime) -> Result<(), Fail> {
+    let alloc = rt.alloc();
+    let source = wave(alloc, &[0; 16], None)?;
+    for (len, code, line) in [
+        (
+            65_536,
+            0,
+            "sample s blocks 1 loop none error 0 bound 0 gap 0 levels 0 0 0 1 optimal\ndone 1 samples 2 files\n",
+        ),
+        (65_537, 3, "fault 3 manifest TooLong 65537\n"),
+        (65_538, 3, "fault 3 manifest TooLong 65537\n"),
+    ] {
+        let manifest = spaced(alloc, ONE.as_bytes(), len)?;
+        let mut host = host_with(alloc, manifest.as_slice(), source.as_slice())?;
+        assert_eq!(rt; code_of(alloc, &mut host, "m.toml")?, code);
+        assert_eq!(rt; host.said(), line.as_bytes());
+        assert_eq!(rt; host.file("b").is_some(), code == 0);
+    }
+    Ok(())
+}
+
+#[test]
+fn reads_sources_up_to_a_length(rt: HostRuntime) -> Result<(), Fail> {
+    let alloc = rt.alloc();
+    // a chunk of any other name is passed over
+    let mut front = wave(alloc, &[0; 16], None)?;
+    front.extend_from_slice(b"LIST")?;
+    push_number(&mut front, 4_194_304 - 84)?;
+    for (len, code, line) in [
+        (
+            4_194_304,
+            0,
+            "sample s blocks 1 loop none error 0 bound 0 gap 0 levels 0 0 0 1 optimal\ndone 1 samples 2 files\n",
+        ),
+        (4_194_305, 4, "fault 4 s FileLong 4194304\n"),
+    ] {
+        let source = spaced(alloc, front.as_slice(), len)?;
+        let mut host = host_with(alloc, ONE.as_bytes(), source.as_slice())?;
+        assert_eq!(rt; code_of(alloc, &mut host, "m.toml")?, code);
+        assert_eq!(rt; host.said(), line.as_bytes());
+        assert_eq!(rt; host.file("b").is_some(), code == 0);
+    }
+    Ok(())
+}
+
+#[test]
+fn fills_the_sound_memory(rt: HostRuntime) -> Result<(), Fail> {
+    let alloc = rt.alloc();
+    let manifest =
+        "format = 'brr'\nbank = 'b'\nbase = 65280\n[[sample]]\nname = 's'\nfile = 's.wav'\n";
+    for (frames, code, line) in [
+        (
+            448,
+            0,
+            "sample s blocks 28 loop none error 0 bound 0 gap 0 levels 0 0 0 1 optimal\ndone 1 samples 2 files\n",
+        ),
+        (449, 6, "fault 6 b ImageFull 65545\n"),
+    ] {
+        let source = constant(alloc, 0, frames)?;
+        let mut host = host_with(alloc, manifest.as_bytes(), source.as_slice())?;
+        assert_eq!(rt; code_of(alloc, &mut host, "m.toml")?, code);
+        assert_eq!(rt; host.said(), line.as_bytes());
+        assert_eq!(rt; host.file("b").is_some(), code == 0);
+    }
+    Ok(())
+}
+
+#[test]
+fn refuses_two_samples_that_are_too_long_together(rt: HostRuntime) -> Result<(), Fail> {
+    let alloc = rt.alloc();
+    let manifest =
+        "format = 'brr'\nbank = 'b'\n[[sample]]\nname = 's'\nfile = 's.wav'\n[[sample]]\nname = 't'\nfile = 't.wav'\n";
+    let source = constant(alloc, 0, 16 * 4096)?;
+    let mut host = host_with(alloc, manifest.as_bytes(), source.as_slice())?;
+    host.put("t.wav", constant(alloc, 0, 16 * 3129)?.as_slice())
+        .map_err(|_| "memory")?;
+    assert_eq!(rt; code_of(alloc, &mut host, "m.toml")?, 6);
+    assert_eq!(rt; host.said(), "fault 6 b ImageFull 65545\n".as_bytes());
+    assert!(rt; host.file("b").is_none());
+    Ok(())
+}
+
+/// A host that fails at one call.
+fn failing(alloc: Global, call: u64) -> Result<MemoryHost, Fail> {
+    let mut fails = Vec::new(alloc);
+    fails.push(call)?;
+    let mut host = MemoryHost::new(alloc, fails);
+    host.put("m.toml", ONE.as_bytes()).map_err(|_| "memory")?;
+    Ok(host)
+}
+
+#[test]
+fn tells_which_call_failed(rt: HostRuntime) -> Result<(), Fail> {
+    let alloc = rt.alloc();
+    for (call, line, image, pass) in [
+        (0, "fault 8 fetch m.toml\n", false, false),
+        (1, "fault 8 fetch s.wav\n", false, false),
+        (2, "fault 8 store b\n", false, false),
+        (3, "fault 8 store b.s.first.wav\n", true, false),
+        (4, "", true, true),
+    ] {
+        let mut host = failing(alloc, call)?;
+        host.put("s.wav", wave(alloc, &[0; 16], None)?.as_slice())
+            .map_err(|_| "memory")?;
+        assert_eq!(rt; code_of(alloc, &mut host, "m.toml")?, 8);
+        assert_eq!(rt; host.said(), line.as_bytes());
+        assert_eq!(rt; host.faults(), 1);
+        assert_eq!(rt; host.file("b").is_some(), image);
+        assert_eq!(rt; host.file("b.s.first.wav").is_some(), pass);
+    }
+    Ok(())
+}
+
+#[test]
+fn tells_which_source_is_not_there(rt: HostRuntime) -> Result<(), Fail> {
+    let alloc = rt.alloc();
+    let mut host = failing(alloc, 9)?;
+    assert_eq!(rt; code_of(alloc, &mut host, "m.toml")?, 8);
+    assert_eq!(rt; host.said(), "fault 8 fetch s.wav\n".as_bytes());
+    assert_eq!(rt; host.faults(), 1);
+    assert!(rt; host.file("b").is_none());
+    assert!(rt; host.file("b.s.first.wav").is_none());
+    Ok(())
+}

@@ -20,13 +20,14 @@ all: build/adbank
 PROGRESS := awk '/^(rt: |checked |logic=)|: error|no proof/ { print substr($$0, 1, 160); fflush() }'
 
 # `rt run` proves, compiles and links the program, and leaves it in the crate's folder out/. It is
-# run once on the way, on its own test data.
+# run once on the way, on one period of a sine.
 build/adbank: $(SOURCES)
 	@mkdir -p build
 	@echo 'Proving the crates, $(JOBS) at a time; the whole log is build/check.log.'
 	@$(RT) all check --jobs $(JOBS) 2>&1 | tee build/check.log | $(PROGRESS)
 	@echo 'Building the program; the whole log is build/build.log.'
-	@cd crates/adbank && $(RT) run -- block data/IN ../../build/zeros.brr 2>&1 | tee ../../build/build.log | $(PROGRESS)
+	@sh examples/sine.sh >build/sine.raw
+	@cd crates/adbank && $(RT) run -- block ../../build/sine.raw ../../build/sine.brr 2>&1 | tee ../../build/build.log | $(PROGRESS)
 	@cp crates/adbank/out/adbank $@
 	@echo 'The program is $@.'
 

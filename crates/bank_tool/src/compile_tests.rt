@@ -19,10 +19,16 @@ fn push_number(bytes: &mut Vec<u8>, number: u32) -> Result<(), Fail> {
     Ok(())
 }
 
+/// Adds a length as such a number.
+fn push_length(bytes: &mut Vec<u8>, len: usize) -> Result<(), Fail> {
+    let len = u32::try_from(len).map_err(|_| "a length")?;
+    push_number(bytes, len)
+}
+
 /// Adds a chunk: its name, its length and its bytes.
 fn push_chunk(file: &mut Vec<u8>, name: &[u8], body: &[u8]) -> Result<(), Fail> {
     file.extend_from_slice(name)?;
-    push_number(file, body.len() as u32)?;
+    push_length(file, body.len())?;
     file.extend_from_slice(body)?;
     Ok(())
 }
@@ -82,7 +88,7 @@ fn spaced(alloc: Global, front: &[u8], len: usize) -> Result<Vec<u8>, Fail> {
 /// An image at address 512 of one sample. The address of its loop has the low byte `again`.
 fn image(alloc: Global, again: u8, blocks: &[u8]) -> Result<Vec<u8>, Fail> {
     let mut bytes = Vec::from_slice(alloc, b"SNBI\x01\0\x01\0\0\x02\0\0")?;
-    push_number(&mut bytes, (4 + blocks.len()) as u32)?;
+    push_length(&mut bytes, 4 + blocks.len())?;
     bytes.extend_from_slice(&[0x00, 0x7D, 0, 0, 0x04, 0x02, again, 0x02])?;
     bytes.extend_from_slice(blocks)?;
     Ok(bytes)

@@ -1,11 +1,11 @@
 -- The front of a file is fetched, and a reading of it decides.
-use Rattle.std.proofs.Common.{◌≡◌, ◌⊎◌, ℕ, List, length, refl, sym, ap, ◌∙◌, inl, inr, subst, Result, Ok, Err, arith}
+use Rattle.std.proofs.Common.{◌≡◌, ◌⊎◌, ℕ, List, refl, sym, ap, inl, inr, subst, Result, Ok, Err}
 use Rattle.std.specs.Result.{IfOk}
-use Rattle.adpcm_nums.specs.Outcome.{Gives, Tells}
+use Rattle.adpcm_nums.specs.Outcome.{Gives}
 use Rattle.host_files.specs.Outside.{World}
 use Rattle.command_plan.specs.declared.status.Status.{Status}
-use Rattle.command_plan.specs.declared.status.Status.TheVariants.{Done, Memory}
-use Rattle.command_plan.specs.Ending.{Ending, Declined, ending_of}
+use Rattle.command_plan.specs.declared.status.Status.TheVariants.{Memory}
+use Rattle.command_plan.specs.Ending.{Declined, ending_of}
 use Rattle.command_plan.specs.Reading.{Reading, fetched, decided, then_read, status_of, tested_reading, Declines}
 use Rattle.command_plan.specs.Steps.{HasRead, Halts, ReadsTo}
 use Rattle.command_plan.proofs.Readings.{halts_first, halts_next, reads_next, halts_after}

@@ -1,7 +1,7 @@
 -- The line that tells a status.
-use Rattle.std.specs.Prelude.{pos, List, ℕ, [], ◌∷◌, codes}
+use Rattle.std.specs.Prelude.{List, ℕ, [], ◌∷◌, codes}
 use Rattle.report_text.specs.declared.part.LinePart.{LinePart}
-use Rattle.report_text.specs.declared.part.LinePart.TheVariants.{Word, Number}
+use Rattle.report_text.specs.declared.part.LinePart.TheVariants.{Word}
 use Rattle.report_text.specs.Fault.{fault_text}
 use Rattle.command_plan.specs.declared.status.Status.{Status}
 use Rattle.command_plan.specs.declared.status.Status.TheVariants.{Done, Words, Manifest, Input, Unfit, Full, Device, Memory}

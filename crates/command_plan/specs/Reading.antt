@@ -6,7 +6,7 @@ use Rattle.command_plan.specs.declared.status.Status.TheVariants.{Done, Input}
 use Rattle.command_plan.specs.declared.input_fault.InputFault.{InputFault}
 use Rattle.command_plan.specs.declared.status.HostCall.{HostCall}
 use Rattle.command_plan.specs.declared.status.HostCall.TheVariants.{Fetch, Store, Say}
-use Rattle.command_plan.specs.Ending.{Ending, Declined, is_finished, ending_of}
+use Rattle.command_plan.specs.Ending.{Declined, is_finished, ending_of}
 use Rattle.command_plan.specs.Plan.{Plan}
 
 -- calls of the host up to the test that decides, and what it decides; `Done` where all is well so far

@@ -5,7 +5,7 @@ use Rattle.window_floor.specs.LeastValue.{least_of}
 at-or-below : (k n : ℕ) → k ≤ suc n → (k ≤ n) ⊎ (suc n ≡ k)
 at-or-below k n h = grind arith
 
-min-two : (x y : ℕ) → (min x y ≡ x) ⊎ (min x y ≡ y)
+pub min-two : (x y : ℕ) → (min x y ≡ x) ⊎ (min x y ≡ y)
 min-two x y = grind arith
 
 pub least_of-below : (f : ℕ → ℕ) (n k : ℕ) → k ≤ n → least_of f n ≤ f k

@@ -7,3 +7,7 @@ pub mod Truth
 pub mod FloorIs
 pub mod Norms
 pub mod Sizes
+pub mod Orders
+pub mod Quotients
+pub mod AimLaws
+pub mod LevelLaws

@@ -13,10 +13,13 @@ output_cost w y target = square_of (w.scale *ℤ y -ℤ target)
 abbrev pub shared_cost : Row → ℕ → ℕ
 shared_cost w miss = div_ceil (miss * miss) w.norm
 
--- the floor, where clamping gives one of two outputs
+-- the floor that a miss gives, where clamping gives one of two outputs
+abbrev pub clamped_floor : Row → ℕ → ℤ → ℤ → ℤ → ℕ
+clamped_floor w miss first second x = min (shared_cost w miss) (min (output_cost w first x) (output_cost w second x))
+
+-- the floor of the least miss
 unfoldable pub window_floor : Row → List ℤ → ℤ → ℤ → ℤ → ℤ → ℤ → ℕ
-window_floor w samples first second r o x =
-    min (shared_cost w (least_miss w (rho_of w r o x) samples)) (min (output_cost w first x) (output_cost w second x))
+window_floor w samples first second r o x = clamped_floor w (least_miss w (rho_of w r o x) samples) first second x
 
 -- the same for lists of the outputs of clamping, and of the targets r, o and x
 abbrev pub floor_of_window : Row → List ℤ → List ℤ → List ℤ → ℕ

@@ -1,7 +1,7 @@
 ghost use Rattle.std.specs.Prelude.{◌≡◌, ◌≤◌, ◌^◌, pos, get_or};
 ghost use Rattle.adpcm_nums.specs.Sample.{IsSample, AreSamples};
 ghost use Rattle.window_floor.specs.Numbers.{row_of};
-ghost use Rattle.window_floor.specs.Floor.{output_cost, shared_cost, floor_of_window};
+ghost use Rattle.window_floor.specs.Floor.{output_cost, shared_cost, clamped_floor, floor_of_window};
 
 use crate::miss::{apart, at_sample, rho};
 use crate::window::Window;
@@ -24,6 +24,18 @@ fn shared(w: Window, miss: u64) -> u64
     (miss * miss).div_ceil(w.norm.unsigned_abs())
 }
 
+/// The floor that a miss gives, where clamping gives one of two outputs at the last place.
+pub(crate) fn floor_at(w: Window, miss: u64, ends: [i32; 2], target: i32) -> u64
+    requires miss { miss ≤ 2 ^ 30 }
+    requires ends { AreSamples ends }
+    requires target { IsSample target }
+    ensures value { result ≡ clamped_floor (row_of w) miss (get_or ends 0 (pos 0)) (get_or ends 1 (pos 0)) target }
+    ensures small { result ≤ 2 ^ 34 }
+{
+    let clamped = cost(w, ends[0], target).min(cost(w, ends[1], target));
+    shared(w, miss).min(clamped)
+}
+
 /// A floor under the squared errors of three places that a filter ties together, whatever came before them, or of two
 /// where `w.cb` is 0.
 ///
@@ -36,9 +48,8 @@ pub fn linear_floor(w: Window, samples: &[i32; 16], ends: [i32; 2], targets: [i3
     ensures value { result ≡ floor_of_window (row_of w) samples.now ends targets }
     ensures small { result ≤ 2 ^ 34 }
 {
-    let miss = at_sample(w, rho(w, targets[0], targets[1], targets[2]), samples);
-    let clamped = cost(w, ends[0], targets[2]).min(cost(w, ends[1], targets[2]));
-    shared(w, miss).min(clamped)
+    let rho = rho(w, targets[0], targets[1], targets[2]);
+    floor_at(w, at_sample(w, rho, samples), ends, targets[2])
 }
 
 #[cfg(test)]

@@ -3,15 +3,20 @@
 //! A filter predicts a sample from the two outputs before it, up to rounding. So the errors of two or three places in a
 //! row keep a linear equation, and where the targets miss that equation by E the squared errors sum to at least
 //! `E² / (D² + A² + B²)`, unless the last output was clamped. This is plain algebra: the decoders come in only through
-//! the numbers of their filters.
+//! the numbers of their filters. Where the samples are the levels of a uniform quantizer, the nearest are found by
+//! dividing.
 #![tactic(auto)]
 
 mod floor;
+mod levels;
 mod miss;
+mod quantizer;
 mod theorem;
 mod window;
 
 pub use floor::linear_floor;
+pub use levels::quantizer_floor;
+pub use quantizer::Quantizer;
 pub use theorem::{
     miss_is_least, no_pair_is_cheaper, no_three_are_cheaper, rows_are_normed, three_products,
 };

@@ -7,7 +7,7 @@ use crate::window::Window;
 use adpcm_nums::distance_in;
 
 /// How far a wrap moves an output.
-const WRAP: i32 = 32768;
+pub(crate) const WRAP: i32 = 32768;
 
 /// `x * y` of small numbers.
 fn times(x: i64, y: i32) -> i64
@@ -49,7 +49,7 @@ pub(crate) fn apart(scale: i64, value: i64, target: i64) -> i64
 }
 
 /// The least miss over the roundings.
-fn at_rounding(w: Window, rho: i64, a: i32) -> u64
+pub(crate) fn at_rounding(w: Window, rho: i64, a: i32) -> u64
     requires rho_low { negsuc (2 ^ 27) ≤ℤ rho }
     requires rho_high { rho ≤ℤ pos (2 ^ 27) }
     requires a { unsigned_abs a ≤ 2 ^ 17 }

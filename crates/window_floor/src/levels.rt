@@ -1,0 +1,188 @@
+ghost use Rattle.std.specs.Prelude.{◌≡◌, ◌≤◌, ◌^◌, ℤ, pos, negsuc, ◌≤ℤ◌, ◌-ℤ◌, ◌*ℤ◌, List};
+ghost use Rattle.adpcm_nums.specs.Sample.{AreSamples};
+ghost use Rattle.window_floor.specs.Numbers.{row_of};
+ghost use Rattle.window_floor.specs.Miss.{rounded_miss, least_miss};
+ghost use Rattle.window_floor.specs.Floor.{floor_of_window};
+ghost use Rattle.window_floor.specs.Quantizer.{AreLevels, IsAim, IsLevelMiss};
+
+use crate::floor::floor_at;
+use crate::miss::{WRAP, apart, at_rounding, rho};
+use crate::quantizer::Quantizer;
+use crate::window::Window;
+use adpcm_nums::floor_div;
+
+/// The greatest a with `scale * (d * a + bias)` at most `rho`. Of two samples on one side of it the nearer one does not
+/// miss by more.
+fn aim(w: Window, rho: i64) -> i64
+    requires rho_low { negsuc (2 ^ 27) ≤ℤ rho }
+    requires rho_high { rho ≤ℤ pos (2 ^ 27) }
+    ensures aim { IsAim (row_of w) rho result }
+    ensures low { negsuc (2 ^ 28) ≤ℤ result }
+    ensures high { result ≤ℤ pos (2 ^ 28) }
+{
+    let bias = apart(w.scale, w.bias, 0);
+    floor_div(rho - bias, apart(w.scale, w.d, 0))
+}
+
+/// The least miss over the roundings at a level, less `wraps` times a wrap.
+fn at_level(w: Window, rho: i64, quantizer: Quantizer, n: i64, wraps: i32) -> u64
+    requires rho_low { negsuc (2 ^ 27) ≤ℤ rho }
+    requires rho_high { rho ≤ℤ pos (2 ^ 27) }
+    requires low { quantizer.low ≤ℤ n }
+    requires high { n ≤ℤ quantizer.high }
+    requires wraps_low { negsuc 0 ≤ℤ wraps }
+    requires wraps_high { wraps ≤ℤ pos 1 }
+    ensures value { result ≡ rounded_miss (row_of w) rho (quantizer.step *ℤ n -ℤ pos 32768 *ℤ wraps) }
+    ensures small { result ≤ 2 ^ 30 }
+{
+    at_rounding(w, rho, quantizer.level(n) - WRAP * wraps)
+}
+
+/// The least miss over the roundings and the levels, less `wraps` times a wrap: it is that of the last level up to
+/// `aim`, or of the next one.
+fn at_copy(w: Window, rho: i64, aim: i64, quantizer: Quantizer, wraps: i32) -> u64
+    requires rho_low { negsuc (2 ^ 27) ≤ℤ rho }
+    requires rho_high { rho ≤ℤ pos (2 ^ 27) }
+    requires aim { IsAim (row_of w) rho aim }
+    requires aim_low { negsuc (2 ^ 28) ≤ℤ aim }
+    requires aim_high { aim ≤ℤ pos (2 ^ 28) }
+    requires wraps_low { negsuc 0 ≤ℤ wraps }
+    requires wraps_high { wraps ≤ℤ pos 1 }
+    ensures miss { IsLevelMiss (row_of w) rho quantizer.step quantizer.low quantizer.high wraps wraps result }
+    ensures small { result ≤ 2 ^ 30 }
+{
+    let n = quantizer.under(aim + i64::from(WRAP * wraps));
+    let next = quantizer.next(n);
+    at_level(w, rho, quantizer, n, wraps).min(at_level(w, rho, quantizer, next, wraps))
+}
+
+/// The least miss over the roundings, the levels and the levels less a wrap, where `plain` is that of the levels.
+fn with_lower(w: Window, rho: i64, aim: i64, quantizer: Quantizer, plain: u64) -> u64
+    requires rho_low { negsuc (2 ^ 27) ≤ℤ rho }
+    requires rho_high { rho ≤ℤ pos (2 ^ 27) }
+    requires aim { IsAim (row_of w) rho aim }
+    requires aim_low { negsuc (2 ^ 28) ≤ℤ aim }
+    requires aim_high { aim ≤ℤ pos (2 ^ 28) }
+    requires plain { IsLevelMiss (row_of w) rho quantizer.step quantizer.low quantizer.high (pos 0) (pos 0) plain }
+    requires small { plain ≤ 2 ^ 30 }
+    ensures miss { IsLevelMiss (row_of w) rho quantizer.step quantizer.low quantizer.high (pos 0) (pos 1) result }
+    ensures small { result ≤ 2 ^ 30 }
+{
+    if quantizer.beats_lower(aim) {
+        plain
+    } else {
+        plain.min(at_copy(w, rho, aim, quantizer, 1))
+    }
+}
+
+/// The least miss over the roundings, the wraps and the levels, where `lower` is that without a wrap added.
+fn with_upper(w: Window, rho: i64, aim: i64, quantizer: Quantizer, lower: u64) -> u64
+    requires rho_low { negsuc (2 ^ 27) ≤ℤ rho }
+    requires rho_high { rho ≤ℤ pos (2 ^ 27) }
+    requires aim { IsAim (row_of w) rho aim }
+    requires aim_low { negsuc (2 ^ 28) ≤ℤ aim }
+    requires aim_high { aim ≤ℤ pos (2 ^ 28) }
+    requires lower { IsLevelMiss (row_of w) rho quantizer.step quantizer.low quantizer.high (pos 0) (pos 1) lower }
+    requires small { lower ≤ 2 ^ 30 }
+    ensures miss { IsLevelMiss (row_of w) rho quantizer.step quantizer.low quantizer.high (negsuc 0) (pos 1) result }
+    ensures small { result ≤ 2 ^ 30 }
+{
+    if quantizer.beats_upper(aim) {
+        lower
+    } else {
+        lower.min(at_copy(w, rho, aim, quantizer, -1))
+    }
+}
+
+/// The least miss over the roundings, the wraps and the levels.
+fn at_quantizer(w: Window, rho: i64, quantizer: Quantizer) -> u64
+    requires rho_low { negsuc (2 ^ 27) ≤ℤ rho }
+    requires rho_high { rho ≤ℤ pos (2 ^ 27) }
+    ensures value { (samples : List ℤ) → AreLevels quantizer.step quantizer.low quantizer.high samples → result ≡ least_miss (row_of w) rho samples }
+    ensures small { result ≤ 2 ^ 30 }
+{
+    let aim = aim(w, rho);
+    let plain = at_copy(w, rho, aim, quantizer, 0);
+    if w.wraps {
+        let lower = with_lower(w, rho, aim, quantizer, plain);
+        with_upper(w, rho, aim, quantizer, lower)
+    } else {
+        plain
+    }
+}
+
+/// `linear_floor` for sixteen samples that are the levels of a quantizer, in any order, some of them more than once:
+/// found by dividing in place of trying each.
+pub fn quantizer_floor(w: Window, quantizer: Quantizer, ends: [i32; 2], targets: [i32; 3]) -> u64
+    requires ends { AreSamples ends }
+    requires targets { AreSamples targets }
+    ensures value { (samples : List ℤ) → AreLevels quantizer.step quantizer.low quantizer.high samples → result ≡ floor_of_window (row_of w) samples ends targets }
+    ensures small { result ≤ 2 ^ 34 }
+{
+    let rho = rho(w, targets[0], targets[1], targets[2]);
+    floor_at(w, at_quantizer(w, rho, quantizer), ends, targets[2])
+}
+
+#[cfg(test)]
+mod tests {
+    use super::quantizer_floor;
+    use crate::quantizer::Quantizer;
+    use crate::window::Window;
+
+    /// The quantizer of all sixteen codes.
+    fn sixteen(step: i64) -> Quantizer
+        requires low { pos 1 ≤ℤ step }
+        requires high { step ≤ℤ pos 4096 }
+    {
+        Quantizer {
+            step,
+            low: -8,
+            high: 7,
+        }
+    }
+
+    /// Values of tests/outside/window_floor.py, which tries every sample, rounding and wrap.
+    #[test]
+    fn tried_windows(rt: HostRuntime) {
+        let brr = sixteen(32);
+        let spu = sixteen(256);
+        assert_eq!(rt;
+            quantizer_floor(Window::brr(1), brr, [-1, 0], [0, 480, 405]),
+            193
+        );
+        assert_eq!(rt;
+            quantizer_floor(Window::brr(2), brr, [-1, 0], [-10568, -29232, 21171]),
+            182490
+        );
+        assert_eq!(rt;
+            quantizer_floor(Window::brr(3), brr, [-1, 0], [-16374, 9062, 29413]),
+            66
+        );
+        assert_eq!(rt;
+            quantizer_floor(Window::spu(2), spu, [32767, -32768], [-351, 280, 860]),
+            1037
+        );
+        assert_eq!(rt;
+            quantizer_floor(Window::spu(3), spu, [32767, -32768], [31734, 20307, -22091]),
+            113998329
+        );
+    }
+
+    /// Values that tests/outside/window_floor.py asserts.
+    #[test]
+    fn coarse_levels(rt: HostRuntime) {
+        assert_eq!(rt;
+            quantizer_floor(Window::brr(1), sixteen(1024), [-1, 0], [0, 2, 6144]),
+            0
+        );
+        let two = Quantizer {
+            step: 2048,
+            low: -1,
+            high: 0,
+        };
+        assert_eq!(rt;
+            quantizer_floor(Window::brr(1), two, [-1, 0], [0, 0, 100]),
+            5323
+        );
+    }
+}

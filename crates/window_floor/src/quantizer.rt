@@ -1,0 +1,74 @@
+ghost use Rattle.std.specs.Prelude.{◌≡◌, ◌⊎◌, ◌↔◌, IsTrue, ℤ, pos, negsuc, ◌+ℤ◌, ◌*ℤ◌, ◌≤ℤ◌, ◌<ℤ◌};
+ghost use Rattle.adpcm_nums.specs.Sample.{IsSample};
+ghost use Rattle.window_floor.specs.Ranges.{IsWithin};
+
+use crate::miss::WRAP;
+use adpcm_nums::floor_div;
+
+/// A uniform quantizer: its levels are `step * n` for each n from `low` to `high`.
+#[derive(Clone, Copy, Debug, PartialEq, Eq)]
+pub struct Quantizer {
+    /// The distance of two levels.
+    pub step: i64,
+    /// The number of the lowest level.
+    pub low: i64,
+    /// The number of the highest level.
+    pub high: i64,
+    ghost step_is: { IsWithin step (pos 1) (pos 4096) },
+    ghost low_is: { IsWithin low (negsuc 7) (pos 0) },
+    ghost high_is: { IsWithin high (pos 0) (pos 7) },
+}
+
+impl Quantizer {
+    /// The level of a number.
+    pub(crate) fn level(self, n: i64) -> i32
+        requires low { self.low ≤ℤ n }
+        requires high { n ≤ℤ self.high }
+        ensures value { result ≡ self.step *ℤ n }
+        ensures range { IsSample result }
+    {
+        (self.step * n) as i32
+    }
+
+    /// The number of the highest level that is not above `x`, or of the lowest level.
+    pub(crate) fn under(self, x: i64) -> i64
+        ensures low { self.low ≤ℤ result }
+        ensures high { result ≤ℤ self.high }
+        ensures below { (result ≡ self.low) ⊎ ((self.step *ℤ result) ≤ℤ x) }
+        ensures above { (result ≡ self.high) ⊎ (x <ℤ (self.step *ℤ (result +ℤ pos 1))) }
+    {
+        floor_div(x, self.step).min(self.high).max(self.low)
+    }
+
+    /// The number after `n`, or the highest.
+    pub(crate) fn next(self, n: i64) -> i64
+        requires low { self.low ≤ℤ n }
+        requires high { n ≤ℤ self.high }
+        ensures low { self.low ≤ℤ result }
+        ensures high { result ≤ℤ self.high }
+        ensures next { (result ≡ n +ℤ pos 1) ⊎ (n ≡ self.high) }
+    {
+        (n + 1).min(self.high)
+    }
+
+    /// Whether the levels span no more than a wrap.
+    fn is_narrow(self) -> bool
+        ensures { IsTrue result ↔ ((self.step *ℤ self.high) ≤ℤ (self.step *ℤ self.low +ℤ pos 32768)) }
+    {
+        self.level(self.high) <= self.level(self.low) + WRAP
+    }
+
+    /// Whether the lowest level lies between `x` and every level less a wrap.
+    pub(crate) fn beats_lower(self, x: i64) -> bool
+        ensures { IsTrue result ↔ (((self.step *ℤ self.high) ≤ℤ (self.step *ℤ self.low +ℤ pos 32768)) × ((self.step *ℤ self.low) ≤ℤ x)) }
+    {
+        self.is_narrow() && i64::from(self.level(self.low)) <= x
+    }
+
+    /// Whether the highest level lies between `x` and every level with a wrap added.
+    pub(crate) fn beats_upper(self, x: i64) -> bool
+        ensures { IsTrue result ↔ (((self.step *ℤ self.high) ≤ℤ (self.step *ℤ self.low +ℤ pos 32768)) × (x <ℤ (self.step *ℤ self.high))) }
+    {
+        self.is_narrow() && x < i64::from(self.level(self.high))
+    }
+}

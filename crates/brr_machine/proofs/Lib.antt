@@ -9,5 +9,8 @@ pub mod Predictions
 pub mod Picks
 pub mod Multiples
 pub mod PlainCodes
+pub mod LevelLaws
+pub mod NearLevels
+pub mod FloorCosts
 pub mod FloorParts
 pub mod FloorTable

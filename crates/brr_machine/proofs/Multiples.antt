@@ -1,5 +1,5 @@
 -- Multiples of a step that lie below and above a wanted number.
-use Rattle.std.proofs.Common.{◌≡◌, ℕ, suc, ◌+◌, ◌-◌, ◌*◌, ◌<◌, ◌≤◌, arith, refl, ap, ◌∙◌, ◌⊎◌, inl, inr}
+use Rattle.std.proofs.Common.{◌≡◌, ℕ, suc, ◌-◌, ◌*◌, ◌<◌, ◌≤◌, arith, refl, ap, ◌∙◌, ◌⊎◌, inl, inr}
 use Rattle.std.proofs.lemmas.Bool.{cases_lt}
 use Rattle.std.specs.Prelude.{ℤ, pos, negsuc, ◌+ℤ◌, ◌-ℤ◌, ◌*ℤ◌, ◌≤ℤ◌, ◌<ℤ◌, unsigned_abs}
 use Rattle.std.specs.Int.{int_min, int_max}
@@ -41,7 +41,7 @@ above-costs p wanted v n some less reaches =
     let apart = steps-apart n v p less in
     farther (n *ℤ pos p -ℤ wanted) (v *ℤ pos p -ℤ wanted) (farther-above (n *ℤ pos p) (v *ℤ pos p) wanted (omega (arith, ints)) reaches)
 
-swap-product : (v : ℤ) (p : ℕ) → pos p *ℤ v ≡ v *ℤ pos p
+pub swap-product : (v : ℤ) (p : ℕ) → pos p *ℤ v ≡ v *ℤ pos p
 swap-product (pos a) p = omega (arith, ints)
 swap-product (negsuc a) p = omega (arith, ints)
 

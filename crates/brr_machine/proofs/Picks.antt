@@ -1,5 +1,5 @@
 -- Two numbers lead all others: the first of them at which a function is least is the first of all.
-use Rattle.std.proofs.Common.{◌≡◌, ℕ, ◌<◌, ◌≤◌, ◌⊎◌, inl, inr, arith, refl, ap, min, nat_lt, subst, sym, if◌then◌else◌}
+use Rattle.std.proofs.Common.{◌≡◌, ℕ, ◌<◌, ◌≤◌, ◌⊎◌, inl, inr, arith, ap, min, nat_lt, subst, if◌then◌else◌}
 use Rattle.std.proofs.lemmas.Bool.{cases_lt, cond_both, ltb-true, ltb-false}
 use Rattle.adpcm_nums.specs.Least.{IsFirstLeast}
 use Rattle.brr_machine.specs.Picks.{first_of_two}

@@ -1,6 +1,6 @@
 -- Where nothing is clamped and nothing wraps, costs are distances of multiples, and one of two codes is the nearest.
-use Rattle.std.proofs.Common.{◌≡◌, ℕ, suc, ◌+◌, ◌-◌, ◌*◌, ◌^◌, ◌<◌, ◌≤◌, arith, refl, ap, sym, ◌∙◌, ◌⊎◌, inl, inr, subst}
-use Rattle.std.specs.Prelude.{ℤ, pos, negsuc, ◌+ℤ◌, ◌-ℤ◌, ◌*ℤ◌, ◌≤ℤ◌, ◌<ℤ◌, nat_lt, if◌then◌else◌}
+use Rattle.std.proofs.Common.{◌≡◌, ℕ, suc, ◌-◌, ◌*◌, ◌^◌, ◌<◌, ◌≤◌, arith, ap, sym, ◌∙◌, ◌⊎◌, inl, inr, subst}
+use Rattle.std.specs.Prelude.{ℤ, pos, negsuc, ◌+ℤ◌, ◌-ℤ◌, ◌*ℤ◌, ◌≤ℤ◌, ◌<ℤ◌, nat_lt}
 use Rattle.std.specs.Int.{int_min, int_max, int_rem_euclid}
 use Rattle.std.proofs.lemmas.Int.{ints}
 use Rattle.std.proofs.lemmas.Bool.Decides.{nat_tests}
@@ -26,7 +26,7 @@ remainder-none : (y : ℤ) → pos 0 ≤ℤ y → y ≤ℤ pos 32767 → int_rem
 remainder-none (pos a) h k = omega (arith, ints)
 remainder-none (negsuc a) h k = absurd (omega (arith, ints))
 
-no-change : (x : ℤ) → negsuc 16383 ≤ℤ x → x ≤ℤ pos 16383 → wrap15_of (clamp16_of x) ≡ x
+pub no-change : (x : ℤ) → negsuc 16383 ≤ℤ x → x ≤ℤ pos 16383 → wrap15_of (clamp16_of x) ≡ x
 no-change x h k =
     let clamp = clamp-none x (omega (arith, ints)) (omega (arith, ints)) in
     let wrap = remainder-none (x +ℤ pos 16384) (omega (arith, ints)) (omega (arith, ints)) in
@@ -40,7 +40,7 @@ halved : (x y : ℤ) → x ≡ pos 2 *ℤ y → pos 2 *ℤ floor_of x 2 ≡ x
 halved x y e = let low = floor-low x 2 (omega arith) in let high = floor-high x 2 (omega arith) in omega (arith, ints)
 
 -- twice the sample is a multiple of the power of the shift
-twice-sample : (shift c : ℕ) → 1 ≤ shift → shift ≤ 11 → pos 2 *ℤ sample_of shift c ≡ nibble c *ℤ pos (2 ^ shift)
+pub twice-sample : (shift c : ℕ) → 1 ≤ shift → shift < 13 → pos 2 *ℤ sample_of shift c ≡ nibble c *ℤ pos (2 ^ shift)
 unfolding sample_of
 twice-sample shift c some few =
     let plain : sample_of shift c ≡ floor_of (nibble c *ℤ pos (2 ^ shift)) 2 = cond-true (nat_lt shift 13) _ _ (lt-ltb shift 13 (omega arith)) in
@@ -54,7 +54,8 @@ pub plain-cost : (shift c : ℕ) (prediction target : ℤ) → IsPlain shift pre
     → predicted_cost shift prediction target c ≡ multiple_cost (2 ^ shift) (target -ℤ pos 2 *ℤ prediction) (nibble c)
 unfolding predicted_output predicted_cost
 plain-cost shift c prediction target plain within =
-    let twice = twice-sample shift c plain.some plain.few in
+    let few : shift < 13 = omega (arith, plain.few) in
+    let twice = twice-sample shift c plain.some few in
     let low = in-order (negsuc 7) (nibble c) (2 ^ shift) (nibble-low c within) in
     let high = in-order (nibble c) (pos 7) (2 ^ shift) (nibble-high c within) in
     let plain_low = plain.low in
@@ -66,12 +67,12 @@ plain-cost shift c prediction target plain within =
     ap square_of apart
 
 -- where two numbers lie
-data Order (x y : ℤ) : Type 0 where
+pub data Order (x y : ℤ) : Type 0 where
   lower : x <ℤ y → Order x y
   same : x ≡ y → Order x y
   higher : y <ℤ x → Order x y
 
-order-of : (x y : ℤ) → Order x y
+pub order-of : (x y : ℤ) → Order x y
 order-of (pos a) (pos b) = elim (cases_order a b) [ inl e ↦ same (ap pos e) | inr o ↦ elim o [ inl h ↦ lower (omega (arith, ints)) | inr h ↦ higher (omega (arith, ints)) ] ]
 order-of (pos a) (negsuc b) = higher (omega (arith, ints))
 order-of (negsuc a) (pos b) = lower (omega (arith, ints))

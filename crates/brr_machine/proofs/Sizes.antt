@@ -31,7 +31,7 @@ product-high : (n : ℤ) (p : ℕ) → negsuc 7 ≤ℤ n → n ≤ℤ pos 7 → 
 product-high (pos a) p l h q = let e : a ≤ 7 = omega (arith, ints) in let m : a * p ≤ 7 * 4096 = mul-le-mul e q in omega (arith, ints)
 product-high (negsuc a) p l h q = omega (arith, ints)
 
-power : (s : ℕ) → s < 13 → 2 ^ s ≤ 4096
+pub power : (s : ℕ) → s < 13 → 2 ^ s ≤ 4096
 power s h = let p : 0 < 2 = omega arith in let q : s ≤ 12 = omega arith in pow-le-pow_right p q
 
 pub shifted-low : (s c : ℕ) → s < 13 → c < 16 → negsuc 16383 ≤ℤ floor_of (nibble c *ℤ pos (2 ^ s)) 2

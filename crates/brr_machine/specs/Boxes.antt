@@ -1,5 +1,5 @@
 -- Boxes of the states of BRR.
-use Rattle.std.specs.Prelude.{◌&&◌, Bool, ℤ, pos, negsuc}
+use Rattle.std.specs.Prelude.{◌&&◌, Bool, pos, negsuc}
 use Rattle.adpcm_nums.specs.declared.span.Span.{Span}
 use Rattle.machine_core.specs.declared.boxes.Bx.{Bx}
 use Rattle.brr_machine.specs.Brr.{is_output}

@@ -1,5 +1,5 @@
 -- What the decoder of BRR means to all that bounds, searches and checks its lists of blocks.
-use Rattle.std.specs.Prelude.{ℕ, ◌+◌, ◌*◌, min, ℤ, List, get_or}
+use Rattle.std.specs.Prelude.{ℕ, ◌+◌, ◌*◌, min, get_or}
 use Rattle.machine_core.specs.declared.state.Kind.TheVariants.{Brr}
 use Rattle.machine_core.specs.Rules.{Rules}
 use Rattle.brr_machine.specs.Brr.{brr, shift_of, filter_of}

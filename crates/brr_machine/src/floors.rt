@@ -1,32 +1,18 @@
-ghost use Rattle.std.specs.Prelude.{◌≡◌, ◌≤◌, ◌<◌, ◌+◌, ◌-◌, ◌*◌, ◌/◌, ◌%◌, ◌^◌, ℕ, ℤ, pos, List, length, get_or};
+ghost use Rattle.std.specs.Prelude.{◌≡◌, ◌≤◌, ◌<◌, ◌+◌, ◌-◌, ◌*◌, ◌/◌, ◌%◌, ◌^◌, nat_le, ◌==◌, ℕ, ℤ, pos, negsuc, ◌≤ℤ◌, List, length, get_or};
 ghost use Rattle.adpcm_nums.specs.Sample.{IsSample, AreSamples};
 ghost use Rattle.machine_core.specs.declared.state.State.{State};
 ghost use Rattle.machine_core.specs.Rules.{tail_cost};
 ghost use Rattle.window_floor.specs.LeastValue.{least_of};
+ghost use Rattle.window_floor.specs.Row.{brr_row};
+ghost use Rattle.window_floor.specs.Floor.{window_floor};
 ghost use Rattle.brr_machine.specs.Brr.{brr, shift_of, filter_of};
 ghost use Rattle.brr_machine.specs.Floors.{samples_under, odd_of, plain_cost, plain_window, pair_window, triple_window, window_size, window_at, own_floor, brr_floor};
 
-use crate::nearest::output_cost;
-use crate::sample::sample;
-use crate::step::brr_output;
-use machine_core::State;
-use window_floor::{Window, linear_floor};
+use crate::levels::{least_level_cost, quantizer};
+use window_floor::{Window, quantizer_floor};
 
 /// The outputs that clamping gives: 32767 and -32768, wrapped to 15 bits.
 const CLAMPED: [i32; 2] = [-1, 0];
-
-/// What the sixteen codes stand for under a shift.
-fn samples(shift: u32) -> [i32; 16]
-    requires { shift < 16 }
-    ensures value { result ≡ samples_under shift }
-    ensures range { AreSamples result }
-{
-    let mut samples = [0; 16];
-    for code in 0..16u32 {
-        samples[code as usize] = sample(shift, code) as i32;
-    }
-    samples
-}
 
 /// 1 for an odd target, else 0.
 fn odd(target: i32) -> u64
@@ -36,28 +22,13 @@ fn odd(target: i32) -> u64
     u64::from(target.unsigned_abs() % 2)
 }
 
-/// What a code costs under a head of filter 0.
-#[tactic(auto, unfolding(crate::specs::Floors::plain_cost))]
-fn code_cost(head: u32, target: i32, code: u32) -> u64
-    requires head { head < 64 }
-    requires target { IsSample target }
-    requires code { code < 16 }
-    ensures { result ≡ plain_cost head target code }
-{
-    output_cost(brr_output(head, code, State { a: 0, b: 0 }), target)
-}
-
-/// The least of those.
+/// The least that a code costs under a head of filter 0. No output is clamped or wraps, since filter 0 predicts 0.
 fn least_code_cost(head: u32, target: i32) -> u64
     requires head { head < 64 }
     requires target { IsSample target }
     ensures { result ≡ least_of (plain_cost head target) 15 }
 {
-    let mut least = code_cost(head, target, 0);
-    for code in 0..15u32 {
-        least = least.min(code_cost(head, target, code + 1));
-    }
-    least
+    least_level_cost(quantizer(head / 4), target)
 }
 
 /// The floor of a window of filter 0.
@@ -70,53 +41,69 @@ fn plain(head: u32, target: i32) -> u64
     least_code_cost(head, target).max(odd(target))
 }
 
+/// The floor that the equation of a filter gives to the targets of a window.
+fn equation_floor(filter: u32, shift: u32, targets: [i32; 3]) -> u64
+    requires low { 1 ≤ filter }
+    requires high { filter ≤ 3 }
+    requires shift { shift < 16 }
+    requires targets { AreSamples targets }
+    ensures value { result ≡ window_floor (brr_row filter) (samples_under shift) (negsuc 0) (pos 0) (get_or targets 0 (pos 0)) (get_or targets 1 (pos 0)) (get_or targets 2 (pos 0)) }
+    ensures small { result ≤ 2 ^ 34 }
+{
+    quantizer_floor(Window::brr(filter), quantizer(shift), CLAMPED, targets)
+}
+
 /// The floor of a window of filter 1.
 #[tactic(auto, unfolding(crate::specs::Floors::pair_window))]
-fn pair(shift: u32, samples: &[i32; 16], o: i32, x: i32) -> u64
-    requires value { samples.now ≡ samples_under shift }
-    requires range { AreSamples samples.now }
+fn pair(shift: u32, o: i32, x: i32) -> u64
+    requires shift { shift < 16 }
     requires o { IsSample o }
     requires x { IsSample x }
     ensures { result ≡ pair_window shift o x }
 {
-    linear_floor(Window::brr(1), samples, CLAMPED, [0, o, x]).max(odd(o) + odd(x))
+    equation_floor(1, shift, [0, o, x]).max(odd(o) + odd(x))
 }
 
 /// The floor of a window of filter 2 or 3.
 #[tactic(auto, unfolding(crate::specs::Floors::triple_window))]
-fn triple(filter: u32, shift: u32, samples: &[i32; 16], r: i32, o: i32, x: i32) -> u64
+fn triple(filter: u32, shift: u32, r: i32, o: i32, x: i32) -> u64
     requires low { 2 ≤ filter }
     requires high { filter ≤ 3 }
-    requires value { samples.now ≡ samples_under shift }
-    requires range { AreSamples samples.now }
+    requires shift { shift < 16 }
     requires r { IsSample r }
     requires o { IsSample o }
     requires x { IsSample x }
     ensures { result ≡ triple_window filter shift r o x }
 {
-    linear_floor(Window::brr(filter), samples, CLAMPED, [r, o, x]).max(odd(r) + odd(o) + odd(x))
+    equation_floor(filter, shift, [r, o, x]).max(odd(r) + odd(o) + odd(x))
 }
 
-/// The number of places in a window of a filter.
-fn size(filter: u32) -> usize
-    requires { filter < 4 }
-    ensures value { result ≡ window_size filter }
-    ensures low { 1 ≤ result }
-    ensures high { result ≤ 3 }
+/// Whether a place is left over when a block's places are cut into windows of a filter.
+fn is_left(filter: u32, place: usize) -> bool
+    requires filter { filter < 4 }
+    requires place { place < 16 }
+    ensures { result ≡ nat_le (16 - 16 % window_size filter) place }
+{
+    filter > 1 && place == 15
+}
+
+/// Whether a window of a filter begins at a place that is not left over.
+fn begins(filter: u32, place: usize) -> bool
+    requires filter { filter < 4 }
+    requires place { place < 16 }
+    ensures { result ≡ (place % window_size filter == 0) }
 {
     match filter {
-        0 => 1,
-        1 => 2,
-        _ => 3,
+        0 => true,
+        1 => place % 2 == 0,
+        _ => place % 3 == 0,
     }
 }
 
 /// The floor of the window that begins at a place.
 #[tactic(auto, unfolding(crate::specs::Floors::window_at))]
-fn window(head: u32, samples: &[i32; 16], targets: &[i32], place: usize) -> u64
+fn window(head: u32, targets: &[i32], place: usize) -> u64
     requires head { head < 64 }
-    requires value { samples.now ≡ samples_under (shift_of head) }
-    requires range { AreSamples samples.now }
     requires targets { AreSamples targets.now }
     requires inside { place + window_size (filter_of head) ≤ length targets.now }
     ensures { result ≡ window_at (filter_of head) head targets.now place }
@@ -124,11 +111,10 @@ fn window(head: u32, samples: &[i32; 16], targets: &[i32], place: usize) -> u64
     let filter = head % 4;
     match filter {
         0 => plain(head, targets[place]),
-        1 => pair(head / 4, samples, targets[place], targets[place + 1]),
+        1 => pair(head / 4, targets[place], targets[place + 1]),
         _ => triple(
             filter,
             head / 4,
-            samples,
             targets[place],
             targets[place + 1],
             targets[place + 2],
@@ -138,20 +124,18 @@ fn window(head: u32, samples: &[i32; 16], targets: &[i32], place: usize) -> u64
 
 /// The floor of the window or the single place that begins at a place of a block, or 0 where none does.
 #[tactic(auto, unfolding(crate::specs::Floors::own_floor))]
-fn own(head: u32, samples: &[i32; 16], targets: &[i32], place: usize) -> u64
+fn own(head: u32, targets: &[i32], place: usize) -> u64
     requires head { head < 64 }
-    requires value { samples.now ≡ samples_under (shift_of head) }
-    requires range { AreSamples samples.now }
     requires count { length targets.now ≡ 16 }
     requires targets { AreSamples targets.now }
     requires place { place < 16 }
     ensures { result ≡ own_floor head targets.now place }
 {
-    let size = size(head % 4);
-    if 16 - 16 % size <= place {
+    let filter = head % 4;
+    if is_left(filter, place) {
         odd(targets[place])
-    } else if place % size == 0 {
-        window(head, samples, targets, place)
+    } else if begins(filter, place) {
+        window(head, targets, place)
     } else {
         0
     }
@@ -166,11 +150,10 @@ pub(crate) fn fill_floors(head: u32, targets: &[i32], table: &mut [u64])
     ensures size { length table.new ≡ 17 }
     ensures floors { (p : ℕ) → p ≤ 16 → get_or table.new p 0 ≡ brr_floor head p targets.now }
 {
-    let samples = samples(head / 4);
     table[16] = 0;
     for k in 0..16usize {
         let place = 15 - k;
-        table[place] = own(head, &samples, targets, place) + table[place + 1];
+        table[place] = own(head, targets, place) + table[place + 1];
     }
 }
 

@@ -1,5 +1,5 @@
 -- Heads of one lane act alike.
-use Rattle.std.proofs.Common.{◌≡◌, ℕ, ◌+◌, ◌*◌, ◌/◌, ◌%◌, ◌<◌, ◌≤◌, arith, refl, ap, ◌∙◌, sym, inl, inr, false, min, if◌then◌else◌}
+use Rattle.std.proofs.Common.{◌≡◌, ℕ, ◌≤◌, arith, ap, ◌∙◌, sym, inl, inr, min}
 use Rattle.std.specs.Prelude.{ℤ, nat_lt, ◌+ℤ◌}
 use Rattle.std.proofs.lemmas.Bool.{cases_lt, le-ltb, cond-false}
 use Rattle.adpcm_nums.specs.Nums.{clamp16_of, wrap15_of}

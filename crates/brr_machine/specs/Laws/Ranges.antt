@@ -1,10 +1,10 @@
 -- Steps and costs stay in range.
-use Rattle.std.proofs.Common.{◌≡◌, ℕ, ◌+◌, ◌*◌, ◌^◌, ◌<◌, ◌≤◌, arith}
+use Rattle.std.proofs.Common.{ℕ, ◌^◌, ◌≤◌, arith}
 use Rattle.std.specs.Prelude.{ℤ, pos, negsuc, ◌+ℤ◌, ◌-ℤ◌, ◌*ℤ◌, ◌≤ℤ◌, unsigned_abs, IsTrue}
 use Rattle.std.specs.Int.{int_rem_euclid}
 use Rattle.std.proofs.lemmas.Int.{ints}
 use Rattle.std.proofs.Math.Nat.{mul-le-mul}
-use Rattle.adpcm_nums.specs.Nums.{clamp16_of, wrap15_of, square_of}
+use Rattle.adpcm_nums.specs.Nums.{clamp16_of, wrap15_of}
 use Rattle.adpcm_nums.specs.Sample.{IsSample}
 use Rattle.machine_core.specs.declared.state.State.{State}
 use Rattle.machine_core.specs.Boxes.{InBox}

@@ -1,14 +1,13 @@
-use Rattle.std.proofs.Common.{w32, to_z, of_z, ap, ◌∙◌, min}
-use Rattle.window_floor.specs.LeastValue.{least_of}
-use Rattle.window_floor.proofs.LeastLaws.{least_of-more}
-use Rattle.brr_machine.specs.Floors.{plain_cost}
+use Rattle.std.proofs.Common.{w32}
+use mir.Val.{SFits}
+use Rattle.std.proofs.lemmas.Int.{to_z-of_z}
+use Rattle.brr_machine.proofs.FloorCosts.{least-plain}
 use Rattle.brr_machine.proofs.floors.least_code_cost.Goals as goal
 
-pub loop-code-init : goal.loop-code-init
-unfolding least_of
-loop-code-init c = c.code_cost-least.ensures
-
-pub loop-code-preserved : goal.loop-code-preserved
-loop-code-preserved c =
-    c.min-least.ensures ∙ (ap (λ n. min c.loop-code.least n) c.code_cost.ensures
-    ∙ least_of-more (plain_cost c.args.head (to_z w32 (of_z w32 c.args.target))) c.loop-code.code c.loop-code.least c.loop-code.invariant)
+pub returns : goal.returns
+returns c =
+    let q = c.quantizer.result in
+    let fits : SFits w32 c.args.target = c.ranges.target in
+    let least = simp to_z-of_z at c.least_level_cost.ensures.least in
+    let reached = simp to_z-of_z at c.least_level_cost.ensures.reached in
+    least-plain c.args.head q.step q.low q.high c.args.target _ c.quantizer.ensures least reached

@@ -1,5 +1,5 @@
 -- The sources of a bank and its files, over plain variables.
-use Rattle.std.proofs.Common.{◌≡◌, ℕ, zero, suc, ◌≤◌, List, [], ◌∷◌, ◌++◌, length, map, Bool, refl, sym, ap, subst, ◌∙◌, arith, Some, Result, Ok, Err, nat_lt, slice_get, get_or, All}
+use Rattle.std.proofs.Common.{◌≡◌, ℕ, zero, suc, ◌≤◌, List, [], ◌∷◌, map, refl, sym, ap, subst, ◌∙◌, arith, Some, Result, Ok, Err, nat_lt, slice_get, get_or, All}
 use Rattle.std.specs.List.{AllZip}
 use Rattle.std.specs.Result.{IfOk}
 use Rattle.std.proofs.lemmas.Option.{slice_get_within, get_or_from_slice_get}
@@ -19,7 +19,7 @@ use Rattle.report_text.specs.declared.report.SampleReport.{SampleReport}
 use Rattle.command_plan.specs.declared.status.Status.{Status}
 use Rattle.command_plan.specs.declared.status.Status.TheVariants.{Full, Memory}
 use Rattle.command_plan.specs.Plan.{names_in}
-use Rattle.command_plan.specs.Reading.{Reading, then_read, decided, read_each, status_of, Declines}
+use Rattle.command_plan.specs.Reading.{then_read, decided, read_each, status_of, Declines}
 use Rattle.command_plan.specs.Steps.{HasRead, Halts, ReadsTo}
 use Rattle.command_plan.proofs.Readings.{halts_first}
 use Rattle.command_plan.proofs.Tested.{tested_after}

@@ -3,10 +3,10 @@ use Rattle.std.proofs.Common.{◌≡◌, ℕ, ◌+◌, ◌≤◌, List, [], ◌�
 use Rattle.std.specs.List.{AllZip}
 use Rattle.std.specs.Option.{IfSome}
 use Rattle.std.proofs.lemmas.Grind.{common_steps}
-use Rattle.adpcm_nums.specs.Outcome.{Gives, ◌>>=◌}
+use Rattle.adpcm_nums.specs.Outcome.{◌>>=◌}
 use Rattle.adpcm_nums.specs.Sample.{AreSamples}
 use Rattle.adpcm_nums.specs.declared.loop_at.LoopAt.{LoopAt}
-use Rattle.host_files.specs.Outside.{World, Files, content_of}
+use Rattle.host_files.specs.Outside.{Files, content_of}
 use Rattle.machine_core.specs.declared.state.Kind.{Kind}
 use Rattle.machine_core.specs.declared.state.Kind.TheVariants.{Brr, Spu, Ima}
 use Rattle.loop_fit.specs.declared.rule.FitRule.{FitRule}
@@ -18,7 +18,7 @@ use Rattle.wave_form.specs.declared.wave.Wave.{Wave}
 use Rattle.wave_form.specs.Reading.{read_of}
 use Rattle.smpl_loops.specs.Loops.{first_loop_of}
 use Rattle.command_plan.specs.declared.status.Status.{Status}
-use Rattle.command_plan.specs.declared.status.Status.TheVariants.{Manifest, Input, Unfit, Memory}
+use Rattle.command_plan.specs.declared.status.Status.TheVariants.{Manifest, Input, Unfit}
 use Rattle.command_plan.specs.declared.input_fault.InputFault.TheVariants.{Wave as WaveInput, Loop, FileLong}
 use Rattle.command_plan.specs.Ending.{Declined, ending_of}
 use Rattle.command_plan.specs.Reading.{Declines}

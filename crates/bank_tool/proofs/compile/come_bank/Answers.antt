@@ -1,4 +1,3 @@
-use Rattle.std.proofs.Common.{◌≡◌}
 use Rattle.manifest_reader.specs.Meaning.{content_of}
 use Rattle.command_plan.specs.Reading.{writing_course}
 use Rattle.command_plan.proofs.Promised.{ends_early, ends_short}

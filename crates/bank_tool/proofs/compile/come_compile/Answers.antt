@@ -1,4 +1,4 @@
-use Rattle.std.proofs.Common.{◌≡◌, ◌∙◌}
+use Rattle.std.proofs.Common.{◌∙◌}
 use Rattle.command_plan.specs.Reading.{tested_reading}
 use Rattle.command_plan.proofs.Promised.{ends_early}
 use Rattle.manifest_reader.specs.Meaning.{content_of}

@@ -1,4 +1,3 @@
-use Rattle.std.proofs.Common.{◌≡◌}
 use Rattle.manifest_reader.specs.Meaning.{content_of}
 use Rattle.bank_tool.proofs.BankSteps.{sources_refused, sources_tested}
 use Rattle.bank_tool.proofs.fetch_bank.fetch_sources.Goals as goal

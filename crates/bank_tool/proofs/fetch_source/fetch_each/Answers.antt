@@ -6,7 +6,7 @@ use Rattle.std.proofs.lemmas.List.Elements.{All-push}
 use Rattle.manifest_reader.specs.declared.manifest.SampleEntry.{SampleEntry}
 use Rattle.command_plan.specs.Reading.{read_each}
 use Rattle.command_plan.specs.Steps.{HasRead}
-use Rattle.command_plan.proofs.ReadEach.{reads_none, reads_more, each_halts, each_short, map_more}
+use Rattle.command_plan.proofs.ReadEach.{reads_none, reads_more, each_halts, each_short}
 use Rattle.bank_tool.specs.declared.source.Source.{Source}
 use Rattle.bank_tool.specs.Compile.{source_in, source_reading}
 use Rattle.bank_tool.proofs.SourceSteps.{each_zip, zip_none, zip_more, count_more, alike_more}

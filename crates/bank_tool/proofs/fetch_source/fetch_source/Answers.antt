@@ -1,4 +1,4 @@
-use Rattle.std.proofs.Common.{◌≡◌, ◌∙◌, ap, subst, List, ℕ, Ok}
+use Rattle.std.proofs.Common.{◌≡◌, ◌∙◌, ap, subst, List, ℕ}
 use Rattle.adpcm_nums.specs.Outcome.{Gives}
 use Rattle.command_plan.specs.declared.status.Status.TheVariants.{Memory}
 use Rattle.command_plan.specs.Reading.{fetched, tested_reading}

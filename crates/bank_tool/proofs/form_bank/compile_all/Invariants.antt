@@ -1,4 +1,4 @@
-use Rattle.std.proofs.Common.{◌≡◌, ◌≤◌, length, All}
+use Rattle.std.proofs.Common.{◌≤◌, All}
 use Rattle.std.specs.List.{AllZip}
 use Rattle.bank_compile.specs.declared.sample.SampleOut.{SampleOut}
 use Rattle.bank_compile.specs.Bank.{IsOut}

@@ -1,6 +1,3 @@
-use Rattle.std.proofs.Common.{sym, ap, subst, arith, length, ℤ, List}
-use Rattle.machine_core.specs.declared.state.Kind.{Kind}
-use Rattle.loop_fit.specs.Source.{IsBlockOf}
 use Rattle.bank_tool.proofs.SourceSteps.{is_source}
 use Rattle.bank_tool.proofs.read_source.fit_sound.Goals as goal
 

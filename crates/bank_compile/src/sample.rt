@@ -60,13 +60,11 @@ fn bound(fitted: &Fitted) -> u64
     requires { IsBrrFit fitted.now }
     ensures { result ≡ bound_of fitted.now }
 {
-    let mut table = [0; 17];
     floor_of_blocks(
         &Brr,
         fitted.loop_block,
         fitted.targets.as_slice(),
         fitted.blocks,
-        &mut table,
     )
 }
 

@@ -4,7 +4,7 @@ use Rattle.std.specs.Prelude.{ℤ}
 use Rattle.std.proofs.lemmas.List.{get_or-set_other, get_or-set_same}
 use Rattle.brr_machine.specs.Floors.{own_floor, sum_of_floors, brr_floor}
 
-floor-end : (head : ℕ) (targets : List ℤ) → brr_floor head 16 targets ≡ 0
+pub floor-end : (head : ℕ) (targets : List ℤ) → brr_floor head 16 targets ≡ 0
 unfolding brr_floor
 floor-end head targets = refl
 

@@ -14,3 +14,4 @@ pub mod NearLevels
 pub mod FloorCosts
 pub mod FloorParts
 pub mod FloorTable
+pub mod LeastFloor

@@ -124,7 +124,7 @@ fn window(head: u32, targets: &[i32], place: usize) -> u64
 
 /// The floor of the window or the single place that begins at a place of a block, or 0 where none does.
 #[tactic(auto, unfolding(crate::specs::Floors::own_floor))]
-fn own(head: u32, targets: &[i32], place: usize) -> u64
+pub(crate) fn own(head: u32, targets: &[i32], place: usize) -> u64
     requires head { head < 64 }
     requires count { length targets.now ≡ 16 }
     requires targets { AreSamples targets.now }

@@ -5,6 +5,7 @@ mod block;
 mod decode;
 mod filter;
 mod floors;
+mod least;
 mod levels;
 mod machine;
 mod nearest;

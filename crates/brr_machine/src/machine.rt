@@ -3,9 +3,9 @@ ghost use Rattle.brr_machine.specs.Laws.{brr_is_machine};
 
 use crate::filter::predict;
 use crate::floors::fill_floors;
+use crate::least::{allows_head, least_floor};
 use crate::nearest::{nearest_code, output_cost};
 use crate::step::brr_output;
-use adpcm_nums::Span;
 use machine_core::{Bx, HeadRule, Kind, Machine, State};
 
 /// The decoder of the SNES's bit rate reduction (fullsnes, BRR samples).
@@ -13,12 +13,6 @@ use machine_core::{Bx, HeadRule, Kind, Machine, State};
 /// A head is four times the shift, plus the filter. A symbol is a 4-bit code. The states are the last two outputs, of 15 bits.
 #[derive(Clone, Copy, Debug, PartialEq, Eq)]
 pub struct Brr;
-
-/// All outputs.
-const OUTPUTS: Span = Span {
-    lo: -16384,
-    hi: 16383,
-};
 
 impl Machine for Brr {
     ghost rules = { λ _. brr_rules };
@@ -40,10 +34,7 @@ impl Machine for Brr {
     }
 
     fn allows(&self, head: u32, rule: HeadRule) -> bool {
-        match rule {
-            HeadRule::AnyHead => true,
-            HeadRule::FilterZero => head % 4 == 0,
-        }
+        allows_head(head, rule)
     }
 
     // From shift 13 on the shift does not count.
@@ -67,11 +58,8 @@ impl Machine for Brr {
         nearest_code(head / 4, predict(head % 4, from.a, from.b), target)
     }
 
-    fn whole(&self) -> Bx {
-        Bx {
-            a: OUTPUTS,
-            b: OUTPUTS,
-        }
+    fn block_floor(&self, rule: HeadRule, targets: &[i32]) -> u64 {
+        least_floor(rule, targets)
     }
 
     fn floor_len(&self) -> u32 {

@@ -17,14 +17,6 @@ ruled-small r laws rule targets count samples =
     let small = laws.floors_small some.0 0 r.whole targets some.1 laws.some_samples laws.whole_is_box count samples in
     omega (arith, below, here, small)
 
--- what a loop over all heads has found
-pub found-small : (r : Rules) → IsMachine r → (rule : HeadRule) (targets : List ℤ) → length targets ≡ r.decoder.samples → AreSamples targets
-    → (n best : ℕ) → n ≡ r.decoder.heads → best ≡ least n (allowed_floor r rule targets) top → best < 2 ^ 44
-found-small r laws rule targets count samples n best all found =
-    let small = ruled-small r laws rule targets count samples in
-    let e : least n (allowed_floor r rule targets) top ≡ ruled_floor r rule targets = ap (λ z. least z (allowed_floor r rule targets) top) all in
-    omega arith
-
 -- a block's targets stand in the list
 pub block-within : (samples blocks b count : ℕ) → count ≡ blocks * samples → b < blocks → b * samples + samples ≤ count
 block-within samples blocks b count e below = let h : suc b * samples ≤ blocks * samples = mul-le-mul_right samples below in omega arith

@@ -33,51 +33,6 @@ pub fn rule_in(loop_block: Option<u32>, block: u32) -> HeadRule
     }
 }
 
-/// The floor under a block of these targets under a head, or the largest number where the rule does not allow the head.
-fn allowed_floor<M: Machine>(
-    machine: &M,
-    rule: HeadRule,
-    targets: &[i32],
-    table: &mut [u64],
-    head: u32,
-) -> u64
-    requires head { head < (M.rules machine.now).decoder.heads }
-    requires count { length targets.now ≡ (M.rules machine.now).decoder.samples }
-    requires samples { AreSamples targets.now }
-    requires table { length table.old ≡ (M.rules machine.now).floor_len }
-    ensures { result ≡ allowed_floor (M.rules machine.now) rule targets.now head }
-{
-    if machine.allows(head, rule) {
-        machine.fill_floor(head, targets, table);
-        machine.floor_at(head, 0, machine.whole(), table)
-    } else {
-        u64::MAX
-    }
-}
-
-/// The floor under every block of these targets whose head the rule allows, in squared 16-bit steps.
-///
-/// `targets` has one number a sample; `table` has room for a head's floors and is written over.
-#[tactic(auto, using(crate::proofs::LeastValue::least_more), unfolding(crate::specs::Floors::least))]
-pub fn block_floor<M: Machine>(
-    machine: &M,
-    rule: HeadRule,
-    targets: &[i32],
-    table: &mut [u64],
-) -> u64
-    requires count { length targets.now ≡ (M.rules machine.now).decoder.samples }
-    requires samples { AreSamples targets.now }
-    requires table { length table.old ≡ (M.rules machine.now).floor_len }
-    ensures value { result ≡ ruled_floor (M.rules machine.now) rule targets.now }
-    ensures small { result < 2 ^ 44 }
-{
-    let mut least = u64::MAX;
-    for head in 0..machine.heads() {
-        least = least.min(allowed_floor(machine, rule, targets, table, head));
-    }
-    least
-}
-
 /// The targets of a block.
 fn window(targets: &[i32], samples: u32, block: u32) -> &[i32]
     requires range { AreSamples targets.now }
@@ -96,50 +51,45 @@ fn floor_at_block<M: Machine>(
     loop_block: Option<u32>,
     targets: &[i32],
     block: u32,
-    table: &mut [u64],
 ) -> u64
     requires range { AreSamples targets.now }
     requires within { block * (M.rules machine.now).decoder.samples + (M.rules machine.now).decoder.samples ≤ length targets.now }
-    requires table { length table.old ≡ (M.rules machine.now).floor_len }
     ensures value { result ≡ block_floor (M.rules machine.now) loop_block targets.now block }
     ensures small { result < 2 ^ 44 }
 {
     let window = window(targets, machine.block_samples(), block);
-    block_floor(machine, rule_in(loop_block, block), window, table)
+    machine.block_floor(rule_in(loop_block, block), window)
 }
 
 /// The floor under a sample of so many blocks with this loop block, or under a segment of one, in squared 16-bit steps.
 ///
-/// No legal list of blocks has a lower error. `table` has room for a head's floors and is written over.
+/// No legal list of blocks has a lower error.
 pub fn floor_of_blocks<M: Machine>(
     machine: &M,
     loop_block: Option<u32>,
     targets: &[i32],
     blocks: u32,
-    table: &mut [u64],
 ) -> u64
     requires count { length targets.now ≡ blocks * (M.rules machine.now).decoder.samples }
     requires few { length targets.now ≤ 262144 }
     requires range { AreSamples targets.now }
-    requires table { length table.old ≡ (M.rules machine.now).floor_len }
     ensures value { result ≡ floor_of_blocks (M.rules machine.now) loop_block targets.now blocks }
     ensures small { result ≤ blocks * 2 ^ 44 }
 {
     let mut sum = 0;
     for block in 0..blocks {
-        sum += floor_at_block(machine, loop_block, targets, block, table);
+        sum += floor_at_block(machine, loop_block, targets, block);
     }
     sum
 }
 
 /// Fills in the floor under what comes from each block on, up to the end of a sample or a segment; the last place holds 0.
 ///
-/// `rests` has one place more than there are blocks; `table` has room for a head's floors and is written over.
+/// `rests` has one place more than there are blocks.
 pub fn fill_rests<M: Machine>(
     machine: &M,
     loop_block: Option<u32>,
     targets: &[i32],
-    table: &mut [u64],
     rests: &mut [u64],
 )
     requires places { 0 < length rests.old }
@@ -147,7 +97,6 @@ pub fn fill_rests<M: Machine>(
     requires count { length targets.now ≡ (length rests.old - 1) * (M.rules machine.now).decoder.samples }
     requires few { length targets.now ≤ 262144 }
     requires range { AreSamples targets.now }
-    requires table { length table.old ≡ (M.rules machine.now).floor_len }
     ensures { HoldsRests (M.rules machine.now) loop_block targets.now (length rests.old - 1) rests.new }
 {
     let blocks = rests.len() - 1;
@@ -156,7 +105,7 @@ pub fn fill_rests<M: Machine>(
     rests[block] = sum;
     while block > 0 {
         block -= 1;
-        let floor = floor_at_block(machine, loop_block, targets, block as u32, table);
+        let floor = floor_at_block(machine, loop_block, targets, block as u32);
         sum += floor;
         rests[block] = sum;
     }

@@ -3,6 +3,7 @@ ghost use Rattle.adpcm_nums.specs.Sample.{IsSample, AreSamples};
 ghost use Rattle.machine_core.specs.Decoder.{cost_of};
 ghost use Rattle.machine_core.specs.Nearest.{nearest_symbol};
 ghost use Rattle.machine_core.specs.Rules.{Rules, IsMachine, HoldsFloors};
+ghost use Rattle.machine_core.specs.Floors.{ruled_floor};
 
 use crate::boxes::Bx;
 use crate::state::{HeadRule, Kind, State};
@@ -65,9 +66,13 @@ pub trait Machine {
         requires target { IsSample target }
         ensures { result ≡ nearest_symbol (rules self.now).decoder head pos from target };
 
-    /// The box of all states.
-    fn whole(&self) -> Bx
-        ensures { result ≡ (rules self.now).whole };
+    /// The floor under a whole block of these targets, under any head that the rule allows.
+    ///
+    /// It is the least that the tables of the heads say, and a decoder finds it without filling them.
+    fn block_floor(&self, rule: HeadRule, targets: &[i32]) -> u64
+        requires count { length targets.now ≡ (rules self.now).decoder.samples }
+        requires samples { AreSamples targets.now }
+        ensures { result ≡ ruled_floor (rules self.now) rule targets.now };
 
     /// The length of a head's table of floors.
     fn floor_len(&self) -> u32

@@ -74,13 +74,9 @@ fn samples(from: &[i16; 48]) -> [i32; 48]
 fn floors(loop_block: Option<u32>, targets: &[i32; 48]) -> ([u64; 4], u64)
     requires { AreSamples targets.now }
 {
-    let mut table = [0u64; 17];
     let mut rests = [0u64; 4];
-    fill_rests(&Brr, loop_block, targets, &mut table, &mut rests);
-    (
-        rests,
-        floor_of_blocks(&Brr, loop_block, targets, 3, &mut table),
-    )
+    fill_rests(&Brr, loop_block, targets, &mut rests);
+    (rests, floor_of_blocks(&Brr, loop_block, targets, 3))
 }
 
 #[test]

@@ -5,7 +5,6 @@ use Rattle.machine_core.proofs.floors.fill_rests.Given as goal
 abbrev pub invariant-loop-block : goal.invariant-loop-block
 invariant-loop-block g l =
     let rules = g.M.Machine.rules l.machine in record {
-      room : length l.table ≡ rules.floor_len;
       size : length l.rests ≡ l.blocks + 1;
       within : l.block ≤ l.blocks;
       small : l.sum ≤ (l.blocks - l.block) * 2 ^ 44;

@@ -5,7 +5,6 @@ use Rattle.machine_core.proofs.floors.floor_of_blocks.Given as goal
 abbrev pub invariant-loop-block : goal.invariant-loop-block
 invariant-loop-block g l =
     let rules = g.M.Machine.rules l.machine in record {
-      room : length l.table ≡ rules.floor_len;
       small : l.sum ≤ l.block * 2 ^ 44;
       so_far : l.sum + floors_from rules l.loop_block l.targets l.block (l.blocks - l.block) ≡ floors_from rules l.loop_block l.targets 0 l.blocks;
     }

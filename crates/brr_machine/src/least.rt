@@ -1,0 +1,52 @@
+ghost use Rattle.std.specs.Prelude.{◌≡◌, ◌<◌, length, min};
+ghost use Rattle.adpcm_nums.specs.Sample.{AreSamples};
+ghost use Rattle.machine_core.specs.Floors.{ruled_floor};
+ghost use Rattle.brr_machine.specs.Brr.{allows_head};
+ghost use Rattle.brr_machine.specs.BrrRules.{brr_rules};
+ghost use Rattle.brr_machine.specs.Floors.{brr_floor};
+
+use crate::floors::own;
+use machine_core::HeadRule;
+
+/// Whether a rule allows a head: the first block of a sample or of a loop must have filter 0.
+pub(crate) fn allows_head(head: u32, rule: HeadRule) -> bool
+    ensures { result ≡ allows_head head rule }
+{
+    match rule {
+        HeadRule::AnyHead => true,
+        HeadRule::FilterZero => head % 4 == 0,
+    }
+}
+
+/// The floor under a block under a head where that is less than `most`, and else some number that is at least `most`:
+/// windows are added up only as long as the sum may still be the least.
+fn floor_below(head: u32, targets: &[i32], most: u64) -> u64
+    requires head { head < 64 }
+    requires count { length targets.now ≡ 16 }
+    requires targets { AreSamples targets.now }
+    ensures { min result most ≡ min (brr_floor head 0 targets.now) most }
+{
+    let mut sum = 0;
+    for place in 0..16usize {
+        if sum >= most {
+            return sum;
+        }
+        sum += own(head, targets, place);
+    }
+    sum
+}
+
+/// The floor under a block of these targets under any head that the rule allows.
+pub(crate) fn least_floor(rule: HeadRule, targets: &[i32]) -> u64
+    requires count { length targets.now ≡ 16 }
+    requires targets { AreSamples targets.now }
+    ensures { result ≡ ruled_floor brr_rules rule targets.now }
+{
+    let mut least = u64::MAX;
+    for head in 0..64u32 {
+        if allows_head(head, rule) {
+            least = least.min(floor_below(head, targets, least));
+        }
+    }
+    least
+}

@@ -5,7 +5,7 @@ use Rattle.std.proofs.Math.Nat.{mul-le-mul_right}
 use Rattle.adpcm_nums.specs.Sample.{AreSamples}
 use Rattle.machine_core.specs.declared.state.HeadRule.{HeadRule}
 use Rattle.machine_core.specs.Rules.{Rules, IsMachine}
-use Rattle.machine_core.specs.Floors.{least, allowed_floor, ruled_floor, block_floor, floors_from, top}
+use Rattle.machine_core.specs.Floors.{allowed_floor, ruled_floor, block_floor, floors_from, top}
 use Rattle.machine_core.proofs.LeastValue.{least-below}
 
 -- some head is allowed, and its floor is small

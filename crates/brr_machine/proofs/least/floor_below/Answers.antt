@@ -1,4 +1,4 @@
-use Rattle.std.proofs.Common.{◌≡◌, ◌+◌, min, ap, ◌∙◌, sym, arith}
+use Rattle.std.proofs.Common.{◌≡◌, min, ap, ◌∙◌, arith}
 use Rattle.brr_machine.specs.Floors.{brr_floor}
 use Rattle.brr_machine.specs.Laws.FloorSizes.{own-small, floor-fits}
 use Rattle.brr_machine.proofs.FloorTable.{floor-step, floor-end}

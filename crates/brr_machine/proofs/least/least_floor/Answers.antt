@@ -1,5 +1,5 @@
-use Rattle.std.proofs.Common.{◌≡◌, ◌∙◌, sym, arith}
-use Rattle.machine_core.specs.Floors.{least, allowed_floor, top}
+use Rattle.std.proofs.Common.{◌∙◌, sym}
+use Rattle.machine_core.specs.Floors.{allowed_floor, top}
 use Rattle.machine_core.proofs.LeastValue.{least-none}
 use Rattle.brr_machine.specs.BrrRules.{brr_rules}
 use Rattle.brr_machine.proofs.LeastFloor.{least-allowed, least-forbidden}

@@ -1,4 +1,4 @@
-use Rattle.std.proofs.Common.{◌≡◌, ◌<◌, ◌^◌, subst, sym, arith}
+use Rattle.std.proofs.Common.{arith}
 use Rattle.machine_core.proofs.FloorLaws.{ruled-small}
 use Rattle.machine_core.proofs.floors.floor_at_block.Goals as goal
 

@@ -2,7 +2,6 @@ ghost use Rattle.std.specs.Prelude.{◌≡◌, ◌≤◌, ◌<◌, ◌*◌, ◌+
 ghost use Rattle.adpcm_nums.specs.Outcome.{Gives};
 ghost use Rattle.loop_fit.specs.Fit.{points_of};
 ghost use Rattle.manifest_reader.specs.Ranges.{IsWithin};
-ghost use Rattle.snes_directory.specs.Part.{IsPart};
 ghost use Rattle.snes_directory.specs.declared.fault.LayFault.TheVariants.{NoMemory as OutOfMemory};
 ghost use Rattle.bank_compile.specs.Sample.{IsBrrFit};
 ghost use Rattle.bank_compile.specs.Bank.{IsOut, part_of, first_file, image_of, bank_of};

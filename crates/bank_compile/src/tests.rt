@@ -1,4 +1,4 @@
-ghost use Rattle.std.specs.Prelude.{◌≡◌, ◌<◌, ◌^◌, length, IfOk, IfSome};
+ghost use Rattle.std.specs.Prelude.{◌≡◌, length, IfOk, IfSome};
 ghost use Rattle.adpcm_nums.specs.Sample.{IsSample};
 ghost use Rattle.loop_fit.specs.Source.{IsLoopIn};
 

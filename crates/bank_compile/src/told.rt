@@ -1,7 +1,7 @@
-ghost use Rattle.std.specs.Prelude.{◌≡◌, ◌++◌, ◌≤◌, ◌<◌, ◌^◌, suc, length, All, IfOk, string_bytes};
+ghost use Rattle.std.specs.Prelude.{◌≡◌, ◌++◌, ◌≤◌, length, All, IfOk, string_bytes};
 ghost use Rattle.std.specs.List.{flat_map};
 ghost use Rattle.report_text.specs.Report.{sample_line};
-ghost use Rattle.bank_compile.specs.Told.{file_count, report_text};
+ghost use Rattle.bank_compile.specs.Told.{report_text};
 
 use crate::sample::SampleOut;
 use adpcm_nums::{NoMemory, Text};

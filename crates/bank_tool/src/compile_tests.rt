@@ -70,7 +70,7 @@ fn wave(alloc: Global, samples: &[i16], at: Option<(u32, u32)>) -> Result<Vec<u8
 /// A WAVE file of so many equal samples with no loop.
 fn constant(alloc: Global, value: i16, frames: usize) -> Result<Vec<u8>, Fail> {
     let mut samples = Vec::new(alloc);
-    for _frame in 0..frames {
+    for _ in 0..frames {
         samples.push(value)?;
     }
     wave(alloc, samples.as_slice(), None)
@@ -79,7 +79,7 @@ fn constant(alloc: Global, value: i16, frames: usize) -> Result<Vec<u8>, Fail> {
 /// A file that begins with some bytes and goes on with spaces.
 fn spaced(alloc: Global, front: &[u8], len: usize) -> Result<Vec<u8>, Fail> {
     let mut bytes = Vec::from_slice(alloc, front)?;
-    for _space in front.len()..len {
+    for _ in front.len()..len {
         bytes.push(b' ')?;
     }
     Ok(bytes)
@@ -391,6 +391,7 @@ fn tells_which_call_failed(rt: HostRuntime) -> Result<(), Fail> {
 #[test]
 fn tells_which_source_is_not_there(rt: HostRuntime) -> Result<(), Fail> {
     let alloc = rt.alloc();
+    // no call is the tenth, so none fails of itself
     let mut host = failing(alloc, 9)?;
     assert_eq!(rt; code_of(alloc, &mut host, "m.toml")?, 8);
     assert_eq!(rt; host.said(), "fault 8 fetch s.wav\n".as_bytes());

@@ -1,6 +1,6 @@
 ghost use Rattle.std.specs.Prelude.{◌≡◌, ◌≢◌, ◌+◌, ◌*◌, ◌^◌, ◌≤◌, true, false, length, map, All, IfOk, IfErr, Some, Ok};
 ghost use Rattle.std.specs.List.{sum_by};
-ghost use Rattle.adpcm_nums.specs.Outcome.{Gives, Tells};
+ghost use Rattle.adpcm_nums.specs.Outcome.{Gives};
 ghost use Rattle.host_files.specs.Outside.{Files, Rose};
 ghost use Rattle.machine_core.specs.declared.state.Kind.TheVariants.{Brr};
 ghost use Rattle.manifest_reader.specs.declared.manifest.SampleEntry.{SampleEntry};

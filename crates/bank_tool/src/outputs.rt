@@ -1,4 +1,4 @@
-ghost use Rattle.std.specs.Prelude.{◌≡◌, ◌^◌, ◌<◌, ◌≤◌, length, IfOk, IfSome};
+ghost use Rattle.std.specs.Prelude.{◌≡◌, ◌^◌, ◌<◌, length, IfOk, IfSome};
 ghost use Rattle.adpcm_nums.specs.First.{first_where};
 ghost use Rattle.adpcm_nums.specs.Outcome.{Gives};
 ghost use Rattle.snes_directory.specs.Reading.{IsImage};

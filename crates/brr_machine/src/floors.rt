@@ -1,11 +1,11 @@
-ghost use Rattle.std.specs.Prelude.{◌≡◌, ◌≤◌, ◌<◌, ◌+◌, ◌-◌, ◌*◌, ◌/◌, ◌%◌, ◌^◌, nat_le, ◌==◌, ℕ, ℤ, pos, negsuc, ◌≤ℤ◌, List, length, get_or};
+ghost use Rattle.std.specs.Prelude.{◌≡◌, ◌≤◌, ◌<◌, ◌+◌, ◌-◌, ◌/◌, ◌%◌, ◌^◌, nat_le, ◌==◌, ℕ, ℤ, pos, negsuc, List, length, get_or};
 ghost use Rattle.adpcm_nums.specs.Sample.{IsSample, AreSamples};
 ghost use Rattle.machine_core.specs.declared.state.State.{State};
 ghost use Rattle.machine_core.specs.Rules.{tail_cost};
 ghost use Rattle.window_floor.specs.LeastValue.{least_of};
 ghost use Rattle.window_floor.specs.Row.{brr_row};
 ghost use Rattle.window_floor.specs.Floor.{window_floor};
-ghost use Rattle.brr_machine.specs.Brr.{brr, shift_of, filter_of};
+ghost use Rattle.brr_machine.specs.Brr.{brr, filter_of};
 ghost use Rattle.brr_machine.specs.Floors.{samples_under, odd_of, plain_cost, plain_window, pair_window, triple_window, window_size, window_at, own_floor, brr_floor};
 
 use crate::levels::{least_level_cost, quantizer};

@@ -19,8 +19,8 @@ fn level_step(shift: u32) -> i64
     1i64 << (shift - 1)
 }
 
-/// The levels that the sixteen codes stand for under a shift: at shift 0 each stands for two codes, and from shift 13 on
-/// only the sign counts.
+/// The levels that the sixteen codes stand for under a shift: at shift 0 two codes stand for each level, and from shift 13
+/// on only the sign counts.
 #[tactic(auto, using(crate::proofs::LevelLaws::levels_halved, crate::proofs::LevelLaws::levels_multiplied, crate::proofs::LevelLaws::levels_signed))]
 pub(crate) fn quantizer(shift: u32) -> Quantizer
     requires { shift < 16 }

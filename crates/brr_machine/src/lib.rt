@@ -1,4 +1,5 @@
-//! The SNES's bit rate reduction: decoding and spelling of blocks, and the best block of filter 0.
+//! The SNES's bit rate reduction: decoding and spelling of blocks, the best block of filter 0, and floors under a block's
+//! error.
 #![tactic(auto)]
 
 mod block;

@@ -1,7 +1,7 @@
-ghost use Rattle.std.specs.Prelude.{◌≡◌, ℕ, None, ◌+◌, ◌*◌, ◌-◌, ◌<◌, ◌≤◌, ◌^◌, length, slice_range};
+ghost use Rattle.std.specs.Prelude.{◌≡◌, None, ◌+◌, ◌*◌, ◌-◌, ◌<◌, ◌≤◌, ◌^◌, length, slice_range};
 ghost use Rattle.adpcm_nums.specs.Sample.{AreSamples};
 ghost use Rattle.machine_core.specs.Blocks.{rule_of};
-ghost use Rattle.machine_core.specs.Floors.{allowed_floor, ruled_floor, block_floor, floor_of_blocks, HoldsRests};
+ghost use Rattle.machine_core.specs.Floors.{block_floor, floor_of_blocks, HoldsRests};
 
 use crate::machine::Machine;
 use crate::state::HeadRule;

@@ -37,7 +37,7 @@ pub(crate) fn floor_at(w: Window, miss: u64, ends: [i32; 2], target: i32) -> u64
 }
 
 /// A floor under the squared errors of three places that a filter ties together, whatever came before them, or of two
-/// where `w.cb` is 0.
+/// where `w.cb` is 0 (this project's own choice).
 ///
 /// `samples` are what the sixteen codes of the last place stand for, and `ends` are the outputs that clamping may give
 /// there. The targets stand in the order of the places; where there are two places the first is 0.

@@ -111,8 +111,12 @@ fn at_quantizer(w: Window, rho: i64, quantizer: Quantizer) -> u64
     }
 }
 
-/// `linear_floor` for sixteen samples that are the levels of a quantizer, in any order, some of them more than once:
-/// found by dividing in place of trying each.
+/// A floor under the squared errors of three places that a filter ties together, or of two where `w.cb` is 0, where the
+/// sixteen codes of the last place stand for the levels of a quantizer, in any order, some more than once. It is found by
+/// dividing in place of trying each (this project's own choice).
+///
+/// `ends` are the outputs that clamping may give at the last place. The targets stand in the order of the places; where
+/// there are two places the first is 0.
 pub fn quantizer_floor(w: Window, quantizer: Quantizer, ends: [i32; 2], targets: [i32; 3]) -> u64
     requires ends { AreSamples ends }
     requires targets { AreSamples targets }

@@ -5,14 +5,15 @@ ghost use Rattle.window_floor.specs.Ranges.{IsWithin};
 use crate::miss::WRAP;
 use adpcm_nums::floor_div;
 
-/// A uniform quantizer: its levels are `step * n` for each n from `low` to `high`.
+/// A uniform quantizer: its levels are `step * n` for each whole n from `low` to `high`, in the steps of a decoder's
+/// samples.
 #[derive(Clone, Copy, Debug, PartialEq, Eq)]
 pub struct Quantizer {
-    /// The distance of two levels.
+    /// The distance from one level to the next, 1 to 4096.
     pub step: i64,
-    /// The number of the lowest level.
+    /// The number of the lowest level, -8 to 0.
     pub low: i64,
-    /// The number of the highest level.
+    /// The number of the highest level, 0 to 7.
     pub high: i64,
     ghost step_is: { IsWithin step (pos 1) (pos 4096) },
     ghost low_is: { IsWithin low (negsuc 7) (pos 0) },

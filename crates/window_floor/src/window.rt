@@ -1,4 +1,4 @@
-ghost use Rattle.std.specs.Prelude.{◌≡◌, ◌≤◌, ◌+◌, ℤ, pos, negsuc, unsigned_abs};
+ghost use Rattle.std.specs.Prelude.{◌≡◌, ◌≤◌, ◌+◌, pos, negsuc, unsigned_abs};
 ghost use Rattle.adpcm_nums.specs.Nums.{square_of};
 ghost use Rattle.window_floor.specs.Ranges.{IsWithin};
 

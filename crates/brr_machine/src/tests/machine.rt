@@ -1,4 +1,3 @@
-ghost use Rattle.std.specs.Prelude.{◌≡◌, IsTrue, length};
 ghost use Rattle.adpcm_nums.specs.Sample.{AreSamples};
 
 use super::state;

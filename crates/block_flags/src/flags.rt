@@ -1,4 +1,4 @@
-ghost use Rattle.std.specs.Prelude.{◌≡◌, ◌≢◌, ◌<◌, IfSome};
+ghost use Rattle.std.specs.Prelude.{◌≡◌, ◌≢◌};
 ghost use Rattle.machine_core.specs.declared.state.Kind.{Kind};
 ghost use Rattle.machine_core.specs.declared.state.Kind.TheVariants.{Ima};
 ghost use Rattle.block_flags.specs.Flags.{flags_of_block, has_end, has_repeat, has_start};
@@ -11,12 +11,10 @@ use machine_core::Kind;
 /// The last block has the end flag, 1, and where there is a loop the repeat flag too, 2. In SPU-ADPCM the loop block
 /// has the start flag, 4.
 pub fn flagged(kind: Kind, block: u32, blocks: u32, loop_block: Option<u32>) -> u8
-    requires kind { kind ≢ Ima }
-    requires block { block < blocks }
-    requires loop_block { IfSome loop_block (λ l. l < blocks) }
+    requires { kind ≢ Ima }
     ensures { result ≡ flags_of_block kind block blocks loop_block }
 {
-    let end = if block + 1 < blocks {
+    let end = if blocks == 0 || block != blocks - 1 {
         0
     } else if loop_block.is_some() {
         3

@@ -1,7 +1,8 @@
 # For people: `make` builds the program, `make demo` shows it, `make test` is the gate.
 #
 # Needs the Rattle kit, whose command is `rt`. Only a proved crate is built, so the first `make`
-# proves every crate, which takes some minutes; after an edit only what changed is proved again.
+# proves every crate, which takes about half an hour on four processors; after an edit only what
+# changed is proved again. `bench` needs Python 3, and `compare` Python 3.11.
 
 SHELL := /bin/bash
 .SHELLFLAGS := -euo pipefail -c

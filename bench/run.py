@@ -86,7 +86,7 @@ def main():
     profile("f8192.toml")
 
 
-def profile(manifest):
+def profile(name):
     """The instructions of the two parts of a compilation, which are the same on every run."""
     if shutil.which("valgrind") is None:
         print("profile: skipped, since valgrind is not installed")
@@ -94,22 +94,22 @@ def profile(manifest):
     out = os.path.join(WORK, "profile.out")
     quiet = {"cwd": WORK, "stdout": subprocess.DEVNULL, "stderr": subprocess.DEVNULL}
     tool = ["valgrind", "--tool=callgrind", "--callgrind-out-file=" + out]
-    subprocess.run([*tool, ADBANK, "compile", manifest], check=True, **quiet)
+    subprocess.run([*tool, ADBANK, "compile", name], check=True, **quiet)
     told = subprocess.run(["callgrind_annotate", "--inclusive=yes", "--threshold=100", out],
                           capture_output=True, text=True, check=True).stdout
     parts = (("choice of the blocks", "bank_compile::greedy::greedy"), ("floors", "bank_compile::sample::bound"))
     counts = []
     for _, function in parts:
-        line = next((l for l in told.splitlines() if function in l), None)
+        line = next((row for row in told.splitlines() if function in row), None)
         if line is None:
             print("profile: skipped, since %s is not to be seen" % function)
             return
         counts.append(int(re.match(r" *([0-9,]+)", line).group(1).replace(",", "")))
     print()
-    print("%-24s %14s %8s" % (manifest, "instructions", "ratio"))
-    for i, (name, _) in enumerate(parts):
+    print("%-24s %14s %8s" % (name, "instructions", "ratio"))
+    for i, (part, _) in enumerate(parts):
         ratio = "" if i == 0 else "%8.2f" % (counts[i] / counts[0])
-        print("%-24s %14d %s" % (name, counts[i], ratio))
+        print("%-24s %14d %s" % (part, counts[i], ratio))
 
 
 main()

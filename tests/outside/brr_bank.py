@@ -205,7 +205,7 @@ class Sample(NamedTuple):
     name: str
     rate: int
     targets: list
-    loop_block: int
+    loop_block: int | None
 
 
 def fetch(files, name):
@@ -359,8 +359,7 @@ def main(words):
     if not words:
         sys.exit("usage: brr_bank.py PROGRAM [MANIFEST..]")
     if bank_manifest.tomllib is None:
-        print("brr_bank: skipped, since Python 3.11 or later is needed to read manifests")
-        return 0
+        sys.exit("brr_bank: Python 3.11 or later is needed to read manifests")
     program = os.path.abspath(words[0])
     if not os.path.exists(program):
         sys.exit(f"brr_bank: there is no program {program}")

@@ -64,8 +64,5 @@ if __name__ == "__main__":
     for loop_block in (None, 1, 2):
         print("rests, loop block", loop_block, rests(loop_block, slope))
     print("rests", rests(None, [0] * 16 + [2, 6144] * 8 + [1] * 16), "of zeros, of 2 and 6144 in turn, and of ones")
-    for head in (0, 5, 10, 51):
-        floors = own_floors(head, slope[16:32])
-        print("head", head, [sum(floors[place:]) for place in range(17)])
     for row in nearest_rows(6):
         print("    %r," % (row,))

@@ -53,7 +53,9 @@ def main():
     for block, last, older in rows():
         count(seen, block, last, older)
     for filter_ in range(4):
-        wanted = ["positive", "negative"] + (["wrapped"] if filter_ else []) + (["clamped high", "clamped low"] if filter_ > 1 else [])
+        wanted = ["positive", "negative"]
+        wanted += ["wrapped"] if filter_ else []
+        wanted += ["clamped high", "clamped low"] if filter_ > 1 else []
         for event in wanted:
             assert seen[filter_, event], (filter_, event)
     for block, last, older in rows():
@@ -61,4 +63,5 @@ def main():
         print("    ([%s], %d, %d, [%s])," % (data, last, older, ", ".join(map(str, brr.decode(block, last, older)))))
 
 
-main()
+if __name__ == "__main__":
+    main()

@@ -1,15 +1,17 @@
 -- The sources of a bank and its files, over plain variables.
-use Rattle.std.proofs.Common.{◌≡◌, ℕ, zero, suc, ◌≤◌, List, [], ◌∷◌, map, refl, sym, ap, subst, ◌∙◌, arith, Some, Result, Ok, Err, nat_lt, slice_get, get_or, All}
-use Rattle.std.specs.List.{AllZip}
+use Rattle.std.proofs.Common.{◌≡◌, false, ℕ, zero, suc, ◌≤◌, List, [], ◌∷◌, map, refl, sym, ap, subst, ◌∙◌, arith, Some, Result, Ok, Err, nat_lt, slice_get, get_or, All}
+use Rattle.std.specs.List.{AllZip, AllByRecursion, IsDistinct, flat_map}
+use Rattle.std.specs.Str.{bytes_eq}
 use Rattle.std.specs.Result.{IfOk}
 use Rattle.std.proofs.lemmas.Option.{slice_get_within, get_or_from_slice_get}
 use Rattle.adpcm_nums.specs.Outcome.{Gives, ◌>>=◌}
 use Rattle.host_files.specs.Outside.{World, Files}
 use Rattle.host_files.specs.declared.named_file.NamedFile.{NamedFile}
 use Rattle.machine_core.specs.declared.state.Kind.{Kind}
+use Rattle.machine_core.specs.declared.state.Kind.TheVariants.{Brr}
 use Rattle.manifest_reader.specs.declared.manifest.SampleEntry.{SampleEntry}
 use Rattle.manifest_reader.specs.Meaning.{Content}
-use Rattle.manifest_reader.specs.Stored.{first_pass_of}
+use Rattle.manifest_reader.specs.Stored.{first_pass_of, sample_names, stored_names}
 use Rattle.snes_directory.specs.declared.fault.LayFault.{LayFault}
 use Rattle.bank_compile.specs.declared.sample.SampleOut.{SampleOut}
 use Rattle.bank_compile.specs.Bank.{bank_of, image_of, bank_files, first_file}
@@ -88,6 +90,27 @@ names_stored m sources outs writes named made files =
     ∙ sym (map_map (first_pass_of m.bank) (λ (s : Source). s.name) sources)
     ∙ ap (map (first_pass_of m.bank)) named
     ∙ map_map (first_pass_of m.bank) (λ (e : SampleEntry). e.name) m.samples)
+
+-- what is free of all files of the samples is free of their first passes
+free_firsts : (bank name : List ℕ) (samples : List SampleEntry) → AllByRecursion (λ y. bytes_eq name y ≡ false) (flat_map (λ s. sample_names Brr bank s.name) samples)
+    → AllByRecursion (λ y. bytes_eq name y ≡ false) (map (λ s. first_pass_of bank s.name) samples)
+free_firsts bank name [] h = tt
+free_firsts bank name (s ∷ samples) h = (h.0, free_firsts bank name samples h.1.1)
+
+-- where no two files of the samples have one name, no two first passes have
+firsts_once : (bank : List ℕ) (samples : List SampleEntry) → IsDistinct bytes_eq (flat_map (λ s. sample_names Brr bank s.name) samples) → IsDistinct bytes_eq (map (λ s. first_pass_of bank s.name) samples)
+unfolding IsDistinct
+firsts_once bank [] h = tt
+firsts_once bank (s ∷ samples) h = (free_firsts bank (first_pass_of bank s.name) samples h.0.1, firsts_once bank samples h.1.1)
+
+image_once : (bank : List ℕ) (samples : List SampleEntry) → IsDistinct bytes_eq (stored_names Brr bank samples) → IsDistinct bytes_eq (bank ∷ map (λ s. first_pass_of bank s.name) samples)
+unfolding IsDistinct stored_names
+image_once bank samples h = (free_firsts bank bank samples h.0, firsts_once bank samples h.1)
+
+-- no two files of a bank that is stored have one name
+pub stored_once : (m : Content) (writes : List NamedFile) → m.kind ≡ Brr → IsDistinct bytes_eq (stored_names m.kind m.bank m.samples) → names_in writes ≡ bank_names m → IsDistinct bytes_eq (names_in writes)
+stored_once m writes kind once names =
+    subst (IsDistinct bytes_eq) (sym names) (image_once m.bank m.samples (subst (λ (k : Kind). IsDistinct bytes_eq (stored_names k m.bank m.samples)) kind once))
 
 -- a bound that holds, and stored files that replay a source, are what is promised of it
 pub stored_sample : (image first : List ℕ) (j : ℕ) (source : Source) (report : SampleReport) → Replays image first j source.rate source.fitted report.error → IsBound source.fitted report.bound → IsStored image first j source report

@@ -1,6 +1,7 @@
 -- The command `compile`: the files that a manifest names become the files of a bank.
 use Rattle.std.specs.Prelude.{◌≡◌, ℕ, suc, ◌+◌, ◌*◌, nat_lt, if◌then◌else◌, List, [], ◌∷◌, length, map, Some, slice_get, Result, Ok, Err}
-use Rattle.std.specs.List.{AllZip, sum_by}
+use Rattle.std.specs.List.{AllZip, IsDistinct, sum_by}
+use Rattle.std.specs.Str.{bytes_eq}
 use Rattle.adpcm_nums.specs.Outcome.{◌>>=◌}
 use Rattle.host_files.specs.Outside.{Files}
 use Rattle.host_files.specs.declared.named_file.NamedFile.{NamedFile}
@@ -15,6 +16,7 @@ use Rattle.bank_compile.specs.Bank.{bank_of}
 use Rattle.bank_compile.specs.Told.{report_text}
 use Rattle.command_plan.specs.declared.status.Status.{Status}
 use Rattle.command_plan.specs.declared.status.Status.TheVariants.{Full}
+use Rattle.command_plan.specs.Plan.{names_in}
 use Rattle.command_plan.specs.Reading.{Reading, nothing_read, then_read, decided, read_each, writing_course, status_of, tested_reading}
 use Rattle.command_plan.specs.Promise.{Choice}
 use Rattle.bank_tool.specs.declared.source.Source.{Source}
@@ -91,6 +93,8 @@ pub record IsBank (m : Content) (sources : List Source) (writes : List NamedFile
   pub outs : List SampleOut
   pub made : AllZip (IsMadeOf m.kind) sources outs
   pub files : bank_of m.bank m.base outs ≡ Ok writes
+  -- no two of these files have one name
+  pub once : IsDistinct bytes_eq (names_in writes)
   pub told : line ≡ report_text outs
   -- each sample is stored and told as promised
   pub stored : AllStored sources outs writes

@@ -22,7 +22,7 @@ pub record HasCompiled (held : Files) (manifest : List ℕ) (a b : World) : Type
   pub writes : List NamedFile
   pub line : List ℕ
   pub bank : IsBank content sources writes line
-  -- exactly its files were set, and exactly its report was said
+  -- exactly its files were set, of which no two have one name, and exactly its report was said
   pub names : names_in writes ≡ bank_names content
   pub files : b.files ≡ all_stored a.files writes
   pub said : b.said ≡ grown a.said line

@@ -1,8 +1,11 @@
 ghost use Rattle.std.specs.Prelude.{◌≡◌, ◌≢◌, ◌≤◌, true, Some};
+ghost use Rattle.std.specs.List.{IsDistinct};
+ghost use Rattle.std.specs.Str.{bytes_eq};
 ghost use Rattle.host_files.specs.Outside.{Files, Rose};
 ghost use Rattle.machine_core.specs.declared.state.Kind.TheVariants.{Brr};
 ghost use Rattle.manifest_reader.specs.Meaning.{content_of};
 ghost use Rattle.manifest_reader.specs.Ranges.{InRanges};
+ghost use Rattle.manifest_reader.specs.Stored.{stored_names};
 ghost use Rattle.command_plan.specs.Ending.{is_device};
 ghost use Rattle.command_plan.specs.Promise.{Reaches, Promises};
 ghost use Rattle.bank_tool.specs.Compile.{bank_course, bank_choice, compile_course, compile_choice};
@@ -54,6 +57,7 @@ fn come_compile<H: Host>(alloc: Global, host: &mut H, name: &str) -> Status
 /// What is done for a manifest that was read, up to the line of its status.
 fn come_bank<H: Host>(alloc: Global, host: &mut H, manifest: &Manifest) -> Status
     requires ranges { InRanges (content_of manifest.now) }
+    requires once { IsDistinct bytes_eq (stored_names manifest.now.kind manifest.now.bank manifest.now.samples.items) }
     requires kind { manifest.now.kind ≡ Brr }
     ensures later { (H.world host.old).faults ≤ (H.world host.new).faults }
     ensures device { is_device result ≡ true → Rose (H.world host.old).faults (H.world host.new).faults }

@@ -1,9 +1,12 @@
 ghost use Rattle.std.specs.Prelude.{◌≡◌, ◌≢◌, ◌≤◌, true, false, IfOk, IfErr, Some, Ok};
+ghost use Rattle.std.specs.List.{IsDistinct};
+ghost use Rattle.std.specs.Str.{bytes_eq};
 ghost use Rattle.adpcm_nums.specs.Outcome.{Gives, Tells};
 ghost use Rattle.host_files.specs.Outside.{Files, Rose};
 ghost use Rattle.machine_core.specs.declared.state.Kind.TheVariants.{Brr};
 ghost use Rattle.manifest_reader.specs.Meaning.{content_of};
 ghost use Rattle.manifest_reader.specs.Ranges.{InRanges};
+ghost use Rattle.manifest_reader.specs.Stored.{stored_names};
 ghost use Rattle.command_plan.specs.Ending.{is_device};
 ghost use Rattle.command_plan.specs.Reading.{tested_reading};
 ghost use Rattle.command_plan.specs.Steps.{ReadsTo};
@@ -51,6 +54,7 @@ fn brr_alone(alloc: Global, manifest: Manifest) -> Result<Manifest, Status>
 #[tactic(auto, unfolding(crate::specs::Source::manifest_in))]
 fn manifest_in(alloc: Global, own: &str, bytes: &[u8]) -> Result<Manifest, Status>
     ensures ranges { IfOk result (λ m. InRanges (content_of m)) }
+    ensures once { IfOk result (λ m. IsDistinct bytes_eq (stored_names m.kind m.bank m.samples.items)) }
     ensures kind { IfOk result (λ m. m.kind ≡ Brr) }
     ensures device { IfErr result (λ s. is_device s ≡ false) }
     ensures words { IfErr result (λ s. s ≢ Status.Words) }
@@ -69,6 +73,7 @@ pub(crate) fn fetch_manifest<H: Host>(
     name: &str,
 ) -> Result<Manifest, Status>
     ensures ranges { IfOk result (λ m. InRanges (content_of m)) }
+    ensures once { IfOk result (λ m. IsDistinct bytes_eq (stored_names m.kind m.bank m.samples.items)) }
     ensures kind { IfOk result (λ m. m.kind ≡ Brr) }
     ensures later { (H.world host.old).faults ≤ (H.world host.new).faults }
     ensures device { IfErr result (λ s. is_device s ≡ true → Rose (H.world host.old).faults (H.world host.new).faults) }

@@ -1,8 +1,13 @@
-ghost use Rattle.std.specs.Prelude.{◌≡◌, ◌≤◌, length, All, IfOk};
-ghost use Rattle.std.specs.List.{AllZip};
+ghost use Rattle.std.specs.Prelude.{◌≡◌, ◌≤◌, length, map, All, IfOk};
+ghost use Rattle.std.specs.List.{AllZip, IsDistinct};
+ghost use Rattle.std.specs.Str.{bytes_eq};
+ghost use Rattle.machine_core.specs.declared.state.Kind.TheVariants.{Brr};
+ghost use Rattle.manifest_reader.specs.declared.manifest.SampleEntry.{SampleEntry};
 ghost use Rattle.manifest_reader.specs.Meaning.{content_of};
 ghost use Rattle.manifest_reader.specs.Ranges.{IsWithin};
+ghost use Rattle.manifest_reader.specs.Stored.{stored_names};
 ghost use Rattle.bank_compile.specs.Bank.{IsOut};
+ghost use Rattle.bank_tool.specs.declared.source.Source.{Source};
 ghost use Rattle.bank_tool.specs.Compile.{IsMadeOf, IsBank};
 ghost use Rattle.bank_tool.specs.Ready.{IsReady};
 
@@ -60,6 +65,9 @@ pub(crate) fn form_bank(
     requires some { 1 ≤ length sources.items }
     requires few { length sources.items ≤ 64 }
     requires ready { All IsReady sources.items }
+    requires kind { manifest.now.kind ≡ Brr }
+    requires named { map (λ (s : Source). s.name) sources.items ≡ map (λ (e : SampleEntry). e.name) manifest.now.samples.items }
+    requires once { IsDistinct bytes_eq (stored_names manifest.now.kind manifest.now.bank manifest.now.samples.items) }
     ensures { IfOk result (λ r. IsBank (content_of manifest.now) sources.items r.0.items r.1) }
 {
     stored_bank_replays();

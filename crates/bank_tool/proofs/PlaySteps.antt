@@ -1,9 +1,11 @@
 -- The command `play`, over plain variables.
-use Rattle.std.proofs.Common.{◌≡◌, ◌≢◌, ◌⊎◌, ℕ, ◌+◌, ◌==◌, List, [], length, take, Bool, true, false, cond, nat_lt, refl, sym, ap, subst, ◌∙◌, inl, inr, Option, Some, None, Result, Ok, Err, IfErr}
+use Rattle.std.proofs.Common.{◌≡◌, ◌≢◌, ◌⊎◌, ℕ, zero, suc, ◌+◌, ◌==◌, List, [], length, take, Bool, true, false, cond, nat_lt, refl, sym, ap, subst, ◌∙◌, arith, inl, inr, Option, Some, None, Result, Ok, Err, IfErr}
 use Rattle.std.proofs.lemmas.Bool.{cond-true, cond-false, eq-eqb, ne_eqb}
+use Rattle.std.proofs.lemmas.Option.{slice_get_within}
 use Rattle.adpcm_nums.specs.First.{first_where}
 use Rattle.adpcm_nums.specs.Outcome.{Tells, Gives, ◌>>=◌}
 use Rattle.host_files.specs.Outside.{World, Files, content_of, raised}
+use Rattle.host_files.specs.declared.named_file.NamedFile.{NamedFile}
 use Rattle.player_model.specs.declared.fault.TrackFault.{TrackFault}
 use Rattle.player_model.specs.Track.{Track}
 use Rattle.snes_directory.specs.declared.fault.ImageFault.{ImageFault}
@@ -13,11 +15,13 @@ use Rattle.command_plan.specs.declared.status.Status.{Status}
 use Rattle.command_plan.specs.declared.status.Status.TheVariants.{Done, Words, Input, Memory}
 use Rattle.command_plan.specs.declared.input_fault.InputFault.{InputFault}
 use Rattle.command_plan.specs.declared.input_fault.InputFault.TheVariants.{FileLong, NoEntry}
-use Rattle.command_plan.specs.Ending.{is_device, is_finished, ending_of}
-use Rattle.command_plan.specs.Plan.{all_stored}
+use Rattle.command_plan.specs.declared.status.HostCall.{HostCall}
+use Rattle.command_plan.specs.declared.status.HostCall.TheVariants.{Fetch, Store, Say}
+use Rattle.command_plan.specs.Ending.{Ending, Finished, Declined, Broken, Starved, is_device, is_finished, ending_of}
+use Rattle.command_plan.specs.Plan.{Plan, names_in, all_stored, SetBut, PartlySet, LeftAt, FollowsTo, Follows}
 use Rattle.command_plan.specs.Reading.{Reading, fetched, nothing_read, then_read, writing_course, status_of, tested_reading, Declines}
 use Rattle.command_plan.specs.Steps.{Comes, HasRead, ReadsTo, writing}
-use Rattle.command_plan.specs.Promise.{Reaches, Promises, Finishes}
+use Rattle.command_plan.specs.Promise.{IsPlanOf, Reaches, Promises, Finishes}
 use Rattle.command_plan.proofs.Readings.{reads_next, reads_nothing}
 use Rattle.command_plan.proofs.Tested.{tested_done, tested_refused}
 use Rattle.command_plan.proofs.Promised.{answers, done_is, ends_silent, ends_written}
@@ -151,6 +155,46 @@ has_played held file entry count a b f = record {
   calls = f.calls ∙ ap (λ n. raised n a.calls) (calls_are file f.line (said_in held file entry count) (count == 0) f.may.told);
 }
 
+-- where no file is to be stored, none is the next one
+no_next : (ws : List NamedFile) (k : ℕ) (name : List ℕ) (before after : Option Files) → ws ≡ [] → SetBut ws k name before after → ⊥
+no_next ws k name before after none h =
+    let within = slice_get_within (names_in ws) k name h.next in
+    let empty : length (names_in ws) ≡ 0 = ap (λ (xs : List NamedFile). length (names_in xs)) none in
+    omega arith
+
+-- storing the first of no files changes nothing
+none_stored : (files : Option Files) (k : ℕ) → all_stored files (take k []) ≡ files
+none_stored files zero = refl
+none_stored files (suc k) = refl
+
+-- nor does a part of what is to be stored, where that is nothing
+none_partly : (ws : List NamedFile) (before after : Option Files) → ws ≡ [] → PartlySet ws before after → after ≡ before
+none_partly ws before after none h = elim h.1 [
+  | inl e ↦ e ∙ ap (λ (xs : List NamedFile). all_stored before (take h.0 xs)) none ∙ none_stored before h.0
+  | inr next ↦ absurd (no_next ws h.0 next.0 before after none next.1)
+]
+
+-- nor does a call that failed, whichever it was
+none_left : (p : Plan) (j : ℕ) (at : HostCall) (before after : Option Files) → p.writes ≡ [] → LeftAt p j at before after → after ≡ before
+none_left p j (Fetch name) before after none h = h
+none_left p j (Store name) before after none h = absurd (no_next p.writes h.0 name before after none h.2)
+none_left p j Say before after none h = h ∙ ap (all_stored before) none
+
+-- nor does the plan, in each case of its ending
+unwritten_by : (e : Ending) (p : Plan) (a b : World) (r : Status) → p.writes ≡ [] → FollowsTo e p a b r → b.files ≡ a.files
+unwritten_by Finished p a b r none f = f.files ∙ ap (all_stored a.files) none
+unwritten_by Declined p a b r none f = f.files
+unwritten_by (Broken at) p a b r none f = none_left p f.place at a.files b.files none f.files
+unwritten_by Starved p a b r none f = none_partly p.writes a.files b.files none f.files
+
+-- a plan that stores nothing leaves the files as they were, however it ends
+unwritten_files : (p : Plan) (a b : World) (r : Status) → p.writes ≡ [] → Follows p a b r → b.files ≡ a.files
+unwritten_files p a b r none f = unwritten_by (ending_of r) p a b r none f
+
+-- `play` stores nothing, whether or not its outputs were chosen
+stores_none : (course : Reading) (said : Result (List ℕ) Status) (r : Status) (p : Plan) → IsPlanOf course (IsPlayed said) r p → p.writes ≡ []
+stores_none course said r p is = elim is.choice [ inl may ↦ may.none | inr early ↦ early.1 ]
+
 -- what the promise says in the command's own words
 pub answers_play : (held : Files) (file : List ℕ) (entry count : ℕ) (a b : World) (r : Status) → Promises (play_course held file entry count) (IsPlayed (said_in held file entry count)) a b r → AnswersPlay held file entry count a b r
 answers_play held file entry count a b r h =
@@ -158,6 +202,7 @@ answers_play held file entry count a b r h =
     let course = play_course held file entry count in
     let is : course.outcome ≡ status_of said = course-is file said count (refuses-declines file said (said_of-refuses file entry count (front_of held file))) in
     record {
+      files = unwritten_files h.0 a b r (stores_none course said r h.0 h.1) h.2;
       done = λ e. has_played held file entry count a b (done_is course (IsPlayed said) a b r h e);
       outcome = λ calm. subst (λ (s : Status). Tells Memory r s) is (answers course (IsPlayed said) a b r h calm);
     }

@@ -107,6 +107,8 @@ pub record HasPlayed (held : Files) (file : List ℕ) (entry count : ℕ) (a b :
 
 -- what `play` answers, in its own words: r is the answer, from a to b
 pub record AnswersPlay (held : Files) (file : List ℕ) (entry count : ℕ) (a b : World) (r : Status) : Type 0 where
+  -- whatever happens, the files are as they were
+  pub files : b.files ≡ a.files
   pub done : r ≡ Done → HasPlayed held file entry count a b
   -- where the host does not fail, what the file says decides, unless there was no memory
   pub outcome : is_device r ≡ false → Tells Memory r (status_of (said_in held file entry count))

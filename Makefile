@@ -46,9 +46,12 @@ demo: build/adbank
 bench: build/adbank
 	@python3 bench/run.py
 
-# Whole banks, byte for byte beside those of a plain compiler that shares nothing with this one.
+# Whole banks, byte for byte beside those of a plain compiler that shares nothing with this one. The
+# data of the program's stored run are an example's.
 compare: build/adbank
-	@python3 -B tests/outside/brr_bank.py build/adbank
+	@cmp examples/tone.toml crates/adbank/data/tone.toml
+	@cmp examples/tone.wav crates/adbank/data/tone.wav
+	@python3 -B tests/outside/compare_banks.py build/adbank
 
 # The merge gate: the proofs, the edits that must be refused, the tests and the program's run.
 test:

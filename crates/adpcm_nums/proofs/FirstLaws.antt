@@ -1,7 +1,7 @@
 -- Laws of the first number that passes a test.
 use Rattle.std.proofs.Common.{◌≡◌, ℕ, zero, suc, ◌+◌, ◌<◌, ◌⊎◌, inl, inr, Bool, true, false, if◌then◌else◌, refl, sym, ap, ◌∙◌, arith, add-one, subst}
-use Rattle.std.specs.Prelude.{Option, Some, None}
-use Rattle.std.proofs.lemmas.Bool.{cases_Bool}
+use Rattle.std.specs.Prelude.{◌==◌, Option, Some, None}
+use Rattle.std.proofs.lemmas.Bool.{cases_Bool, eq-eqb, ne_eqb}
 use Rattle.adpcm_nums.specs.First.{or_first, first_where}
 
 -- i is the first of the numbers below n that passes
@@ -105,3 +105,11 @@ none_found passes (suc n) fails =
 -- the first that passes is found
 pub is_found : (passes : ℕ → Bool) (n i : ℕ) → IsFirst passes n i → first_where passes n ≡ Some i
 is_found passes n i first = first_found passes n i first.within (none_found passes i first.before) first.here
+
+-- of the numbers up to the first that passes only the last does
+pub first_alone : (passes : ℕ → Bool) (n i : ℕ) → IsFirst passes n i → (k : ℕ) → k < suc i → passes k ≡ (suc k == suc i)
+first_alone passes n i first k h =
+    elim (below-or-last k i h) [
+      | inl before ↦ first.before k before ∙ sym (ne_eqb (suc k) (suc i) (omega arith))
+      | inr is ↦ ap passes is ∙ first.here ∙ sym (eq-eqb (suc k) (suc i) (ap suc is))
+    ]

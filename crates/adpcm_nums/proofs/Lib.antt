@@ -1,6 +1,17 @@
 pub mod Wrap
 pub mod LeastLaws
+pub mod LeastValueLaws
+pub mod RangeSumLaws
 pub mod FirstLaws
+pub mod OrderLaws
 pub mod NearestLaws
 pub mod SpanLaws
 pub mod OutcomeLaws
+pub mod FloorBounds
+pub mod IntTests
+pub mod NibbleLaws
+pub mod NibbleValues
+pub mod Multiples
+pub mod Picks
+pub mod NibblePicks
+pub mod RoundLaws

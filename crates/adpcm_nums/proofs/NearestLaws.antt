@@ -1,10 +1,11 @@
 -- The nearest multiple by 1 or 2 is that of the floored quotient, brought into the run of numbers.
 use Rattle.std.proofs.Common.{◌≡◌, ℕ, ◌-◌, ◌<◌, ◌≤◌, arith, refl, ◌⊎◌, inl, inr, ap, ◌∙◌}
-use Rattle.std.specs.Prelude.{ℤ, pos, negsuc, ◌+ℤ◌, ◌-ℤ◌, ◌*ℤ◌, ◌≤ℤ◌, ◌<ℤ◌, unsigned_abs}
+use Rattle.std.specs.Prelude.{ℤ, pos, negsuc, ◌+ℤ◌, ◌-ℤ◌, ◌*ℤ◌, ◌≤ℤ◌, unsigned_abs}
 use Rattle.std.proofs.lemmas.Int.{ints}
 use Rattle.std.proofs.lemmas.Nat.{div-add-mod'}
 use Rattle.adpcm_nums.specs.Nums.{floor_of}
 use Rattle.adpcm_nums.specs.Nearest.{within_of, nearest_of, distance_of}
+use Rattle.adpcm_nums.proofs.OrderLaws.{le-or-gt, low-is, high-is, inside-is}
 
 -- a floored quotient times its divisor is not above the number, and falls short of it by less than the divisor
 pub floor-low : (x : ℤ) (d : ℕ) → 0 < d → (pos d *ℤ floor_of x d) ≤ℤ x
@@ -14,19 +15,6 @@ floor-low (negsuc a) d h = omega (arith, ints, div-add-mod' a d)
 pub floor-high : (x : ℤ) (d : ℕ) → 0 < d → x ≤ℤ (pos d *ℤ floor_of x d +ℤ pos (d - 1))
 floor-high (pos a) d h = omega (arith, ints, div-add-mod' a d)
 floor-high (negsuc a) d h = omega (arith, ints, div-add-mod' a d)
-
-le-or-gt : (x y : ℤ) → (x ≤ℤ y) ⊎ (y <ℤ x)
-le-or-gt x y = grind (arith, ints)
-
--- where a number lands that is brought into lo..hi
-low-is : (lo hi x : ℤ) → lo ≤ℤ hi → x <ℤ lo → within_of lo hi x ≡ lo
-low-is lo hi x o h = grind (arith, ints)
-
-high-is : (lo hi x : ℤ) → lo ≤ℤ hi → hi <ℤ x → within_of lo hi x ≡ hi
-high-is lo hi x o h = grind (arith, ints)
-
-inside-is : (lo hi x : ℤ) → lo ≤ℤ x → x ≤ℤ hi → within_of lo hi x ≡ x
-inside-is lo hi x h k = grind (arith, ints)
 
 -- by 2: the number where the floored half lands is nearest
 near-two : (lo hi q t y n : ℤ) → lo ≤ℤ y → y ≤ℤ hi → (pos 2 *ℤ q) ≤ℤ t → t ≤ℤ (pos 2 *ℤ q +ℤ pos 1) → n ≡ within_of lo hi q

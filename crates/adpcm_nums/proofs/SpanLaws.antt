@@ -1,12 +1,13 @@
 -- The least square distance of a span, and spans that meet.
 use Rattle.std.proofs.Common.{◌≡◌, ℕ, ◌*◌, ◌^◌, ◌≤◌, arith, refl, ◌⊎◌, inl, inr, true}
 use Rattle.std.specs.Int.Signed.{le_z}
-use Rattle.std.specs.Prelude.{◌↔◌, IsTrue, ℤ, pos, ◌≤ℤ◌, ◌<ℤ◌, ◌*ℤ◌, ◌-ℤ◌, unsigned_abs}
+use Rattle.std.specs.Prelude.{◌↔◌, IsTrue, ℤ, pos, ◌≤ℤ◌, ◌*ℤ◌, ◌-ℤ◌, unsigned_abs}
 use Rattle.std.proofs.lemmas.Int.{ints}
 use Rattle.std.proofs.Math.Nat.{mul-le-mul}
 use Rattle.adpcm_nums.specs.Nums.{square_of}
 use Rattle.adpcm_nums.specs.Sample.{IsSample}
 use Rattle.adpcm_nums.specs.Nearest.{within_of, nearest_of, distance_of, distance_sq_of}
+use Rattle.adpcm_nums.proofs.OrderLaws.{le-or-gt}
 use Rattle.adpcm_nums.proofs.NearestLaws.{distance-least}
 
 -- no multiple of a number of the span has a smaller square distance
@@ -28,7 +29,7 @@ pub distance_sq-is : (lo hi scale t lo' hi' scale' t' : ℤ) (n : ℕ) → lo' �
 distance_sq-is lo hi scale t lo' hi' scale' t' n a b d e h = rw (h, a, b, d, e) refl
 
 -- a multiple of a sample lies near every sample
-near-sample : (scale y t : ℤ) → (scale ≡ pos 1) ⊎ (scale ≡ pos 2) → IsSample y → IsSample t → unsigned_abs (scale *ℤ y -ℤ t) ≤ 2 ^ 17
+pub near-sample : (scale y t : ℤ) → (scale ≡ pos 1) ⊎ (scale ≡ pos 2) → IsSample y → IsSample t → unsigned_abs (scale *ℤ y -ℤ t) ≤ 2 ^ 17
 near-sample scale y t (inl e) a b = let al = a.low in let ah = a.high in let bl = b.low in let bh = b.high in rw e (omega (arith, ints))
 near-sample scale y t (inr e) a b = let al = a.low in let ah = a.high in let bl = b.low in let bh = b.high in rw e (omega (arith, ints))
 
@@ -39,9 +40,6 @@ distance_sq-small lo hi scale t s h a b =
     let least = distance_sq-least lo hi scale t lo s (omega (arith, ints)) h in
     let square : square_of (scale *ℤ lo -ℤ t) ≤ 2 ^ 17 * 2 ^ 17 = mul-le-mul near near in
     omega (arith, least, square)
-
-le-or-gt : (x y : ℤ) → (x ≤ℤ y) ⊎ (y <ℤ x)
-le-or-gt x y = grind (arith, ints)
 
 le-shown : (x y : ℤ) → le_z x y ≡ true → x ≤ℤ y
 le-shown x y h = grind (arith, ints)

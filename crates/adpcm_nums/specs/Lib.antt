@@ -1,7 +1,11 @@
 pub mod Nums
 pub mod Least
+pub mod LeastValue
+pub mod RangeSum
 pub mod First
 pub mod Outcome
 pub mod Sample
 pub mod Round
 pub mod Nearest
+pub mod Nibbles
+pub mod Picks

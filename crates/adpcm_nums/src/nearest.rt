@@ -11,8 +11,8 @@ fn within(lo: i64, hi: i64, x: i64) -> i64
     x.min(hi).max(lo)
 }
 
-/// `scale * y`.
-fn multiple(scale: i64, y: i64) -> i64
+/// `scale * y`, for a scale of 1 or 2.
+pub fn multiple(scale: i64, y: i64) -> i64
     requires scale { (scale ≡ pos 1) ⊎ (scale ≡ pos 2) }
     requires low { negsuc (2 ^ 40) ≤ℤ y }
     requires high { y ≤ℤ pos (2 ^ 40) }

@@ -5,3 +5,4 @@ pub mod PlanFacts
 pub mod RoundLaws
 pub mod FitLaws
 pub mod TargetLists
+pub mod SegmentsCut

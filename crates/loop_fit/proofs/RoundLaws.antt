@@ -8,6 +8,7 @@ use Rattle.std.proofs.lemmas.List.{get_or_past}
 use Rattle.std.proofs.lemmas.List.FromFn.{get_or-map-range_with_len, length-map-range_with_len}
 use Rattle.adpcm_nums.specs.Round.{round_place, round_of}
 use Rattle.adpcm_nums.specs.declared.loop_at.LoopAt.{LoopAt}
+use Rattle.adpcm_nums.proofs.RoundLaws.{round_place-over, round_place-within, round_place-le}
 use Rattle.loop_fit.specs.Align.{loop_length}
 use Rattle.loop_fit.specs.Fit.{delayed, target_of, targets_of}
 
@@ -42,21 +43,6 @@ round_place-from at i ordered from =
       | inr within ↦ (let test : nat_le i at.end ≡ true = le-leb _ _ within in
           let small : (i - at.start) % loop_length at ≡ i - at.start = mod-eq_of_lt (omega arith) in
           rw test (omega (arith, small)))
-    ]
-
--- behind its end it goes back, and up to its end it does not
-pub round_place-over : (at : LoopAt) (i : ℕ) → at.end < i → round_place at i ≡ at.start + (i - at.start) % loop_length at
-round_place-over at i over = let test : nat_le i at.end ≡ false = lt-leb _ _ over in rw test refl
-
-pub round_place-within : (at : LoopAt) (i : ℕ) → i ≤ at.end → round_place at i ≡ i
-round_place-within at i within = let test : nat_le i at.end ≡ true = le-leb _ _ within in rw test refl
-
--- so it never passes the end
-pub round_place-le : (at : LoopAt) (i : ℕ) → at.start ≤ at.end → round_place at i ≤ at.end
-round_place-le at i ordered =
-    elim (cases_lt at.end i) [
-      | inl over ↦ (let rest : (i - at.start) % loop_length at < loop_length at = mod_below (i - at.start) (loop_length at) (omega arith) in omega (arith, round_place-over at i over, rest))
-      | inr within ↦ omega (arith, round_place-within at i within)
     ]
 
 -- whole rounds do not count

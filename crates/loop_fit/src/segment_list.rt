@@ -1,4 +1,6 @@
 ghost use Rattle.std.specs.Prelude.{◌≡◌, ◌<◌, All, IfOk, IfSome, replicate, sum};
+ghost use Rattle.machine_core.specs.Blocks.{must_forget};
+ghost use Rattle.machine_core.specs.Segments.{AreSegments};
 ghost use Rattle.loop_fit.specs.Segments.{loop_segments, segments_of};
 
 use adpcm_nums::{NoMemory, Words32};
@@ -28,6 +30,7 @@ fn single_blocks(alloc: Global, blocks: u32) -> Result<Words32, NoMemory>
 
 /// How many blocks each segment of a sample has, in order. A segment is a run of blocks whose outputs do not depend
 /// on what came before: in BRR and SPU-ADPCM the blocks before the loop and those of the loop, in IMA ADPCM each block.
+/// So each begins with a block that must forget, and has no other.
 pub fn segments(
     alloc: Global,
     kind: Kind,
@@ -37,6 +40,7 @@ pub fn segments(
     requires some { 0 < blocks }
     requires within { IfSome loop_block (λ l. l < blocks) }
     ensures exact { IfOk result (λ list. list ≡ segments_of kind blocks loop_block) }
+    ensures cut { IfOk result (λ list. AreSegments (must_forget kind loop_block) 0 list blocks) }
     ensures whole { IfOk result (λ list. sum list ≡ blocks) }
     ensures none_empty { IfOk result (λ list. All (λ n. 0 < n) list) }
 {

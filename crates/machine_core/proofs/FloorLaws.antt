@@ -1,15 +1,15 @@
 -- How large floors are, and how they are added up block by block.
-use Rattle.std.proofs.Common.{◌≡◌, ℕ, suc, ◌+◌, ◌-◌, ◌*◌, ◌<◌, ◌≤◌, ◌^◌, arith, ap, ◌∙◌, refl, subst, ℤ, List, length, get_or, set, get_or-set_same, get_or-set_other, Option, inl, inr, ◌≢◌}
+use Rattle.std.proofs.Common.{◌≡◌, ℕ, suc, ◌+◌, ◌-◌, ◌*◌, ◌<◌, ◌≤◌, ◌^◌, arith, ap, ◌∙◌, subst, ℤ, List, length, get_or, set, get_or-set_same, get_or-set_other, inl, inr, ◌≢◌, Bool}
 use Rattle.std.proofs.lemmas.Bool.{cond-true, cases_lt}
 use Rattle.std.proofs.Math.Nat.{mul-le-mul_right}
 use Rattle.adpcm_nums.specs.Sample.{AreSamples}
 use Rattle.machine_core.specs.declared.state.HeadRule.{HeadRule}
 use Rattle.machine_core.specs.Rules.{Rules, IsMachine}
-use Rattle.machine_core.specs.Floors.{allowed_floor, ruled_floor, block_floor, floors_from, top}
-use Rattle.machine_core.proofs.LeastValue.{least-below}
+use Rattle.machine_core.specs.Floors.{allowed_floor, ruled_floor, floors_from, top}
+use Rattle.adpcm_nums.proofs.LeastValueLaws.{least-below}
 
 -- some head is allowed, and its floor is small
-pub ruled-small : (r : Rules) → IsMachine r → (rule : HeadRule) (targets : List ℤ) → length targets ≡ r.decoder.samples → AreSamples targets → ruled_floor r rule targets < 2 ^ 44
+pub ruled-small : (r : Rules) → IsMachine r → (rule : HeadRule) (targets : List ℤ) → length targets ≡ r.decoder.samples → AreSamples targets → ruled_floor r rule targets ≤ r.decoder.samples * 2 ^ 36
 ruled-small r laws rule targets count samples =
     let some = laws.some_head rule in
     let below = least-below r.decoder.heads (allowed_floor r rule targets) top some.0 some.1 in
@@ -21,28 +21,18 @@ ruled-small r laws rule targets count samples =
 pub block-within : (samples blocks b count : ℕ) → count ≡ blocks * samples → b < blocks → b * samples + samples ≤ count
 block-within samples blocks b count e below = let h : suc b * samples ≤ blocks * samples = mul-le-mul_right samples below in omega arith
 
--- the floors from a block on are that block's and those from the next on
-pub floors-split : (r : Rules) (loop_block : Option ℕ) (targets : List ℤ) (b next blocks : ℕ) → next ≡ b + 1 → next ≤ blocks
-    → floors_from r loop_block targets b (blocks - b) ≡ block_floor r loop_block targets b + floors_from r loop_block targets next (blocks - next)
-floors-split r loop_block targets b next blocks e below =
-    let count : blocks - b ≡ suc (blocks - next) = omega arith in
-    let split : floors_from r loop_block targets b (blocks - b) ≡ block_floor r loop_block targets b + floors_from r loop_block targets (suc b) (blocks - next) = ap (floors_from r loop_block targets b) count in
-    let here : floors_from r loop_block targets (suc b) (blocks - next) ≡ floors_from r loop_block targets next (blocks - next) = ap (λ z. floors_from r loop_block targets z (blocks - next)) (omega arith) in
-    omega arith
-
--- one block's floor is added, and the rest stays the whole
-pub floors-more : (r : Rules) (loop_block : Option ℕ) (targets : List ℤ) (b blocks sum floor whole : ℕ) → b < blocks → floor ≡ block_floor r loop_block targets b
-    → sum + floors_from r loop_block targets b (blocks - b) ≡ whole → sum + floor + floors_from r loop_block targets (b + 1) (blocks - (b + 1)) ≡ whole
-floors-more r loop_block targets b blocks sum floor whole below here so_far = let split = floors-split r loop_block targets b (b + 1) blocks refl (omega arith) in omega arith
-
 -- one more place is filled, before those that are
-pub rests-more : (r : Rules) (loop_block : Option ℕ) (targets : List ℤ) (blocks b next sum : ℕ) (rests : List ℕ) → next ≡ b + 1 → b < length rests → sum ≡ floors_from r loop_block targets b (blocks - b)
-    → ((k : ℕ) → next ≤ k → k ≤ blocks → get_or rests k 0 ≡ floors_from r loop_block targets k (blocks - k))
-    → (k : ℕ) → b ≤ k → k ≤ blocks → get_or (set rests b sum) k 0 ≡ floors_from r loop_block targets k (blocks - k)
-rests-more r loop_block targets blocks b next sum rests e within here later k from below =
+pub rests-more : (r : Rules) (fixed : ℕ → Bool) (targets : List ℤ) (blocks b next sum : ℕ) (rests : List ℕ) → next ≡ b + 1 → b < length rests → sum ≡ floors_from r fixed targets b (blocks - b)
+    → ((k : ℕ) → next ≤ k → k ≤ blocks → get_or rests k 0 ≡ floors_from r fixed targets k (blocks - k))
+    → (k : ℕ) → b ≤ k → k ≤ blocks → get_or (set rests b sum) k 0 ≡ floors_from r fixed targets k (blocks - k)
+rests-more r fixed targets blocks b next sum rests e within here later k from below =
     elim (cases_lt b k) [
       | inl after ↦ (let ne : k ≢ b = omega arith in get_or-set_other rests b k sum 0 ne ∙ later k (omega arith) below)
       | inr not_after ↦ (
           let same : b ≡ k = omega arith in
-          subst (λ (z : ℕ). get_or (set rests b sum) z 0 ≡ floors_from r loop_block targets z (blocks - z)) same (get_or-set_same rests b sum 0 within ∙ here))
+          subst (λ (z : ℕ). get_or (set rests b sum) z 0 ≡ floors_from r fixed targets z (blocks - z)) same (get_or-set_same rests b sum 0 within ∙ here))
     ]
+
+-- a sum of floors grows by one
+pub one-more-floor : (sum floor blocks next most : ℕ) → sum ≤ blocks * most → floor ≤ most → next ≡ blocks + 1 → sum + floor ≤ next * most
+one-more-floor sum floor blocks next most so_far here e = let all : next * most ≡ blocks * most + most = ap (λ z. z * most) e ∙ omega arith in omega (arith, all)

@@ -1,4 +1,3 @@
-pub mod LeastValue
 pub mod Places
 pub mod FloorLaws
 pub mod States
@@ -8,4 +7,8 @@ pub mod Histories
 pub mod Lists
 pub mod PartLaws
 pub mod FloorParts
-pub mod Joins
+pub mod SegmentLaws
+pub mod LaneFloors
+pub mod TailPath
+pub mod Runs
+pub mod LeastFloor

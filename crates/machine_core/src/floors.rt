@@ -1,14 +1,14 @@
 ghost use Rattle.std.specs.Prelude.{◌≡◌, None, ◌+◌, ◌*◌, ◌-◌, ◌<◌, ◌≤◌, ◌^◌, length, slice_range};
 ghost use Rattle.adpcm_nums.specs.Sample.{AreSamples};
-ghost use Rattle.machine_core.specs.Blocks.{rule_of};
+ghost use Rattle.machine_core.specs.Blocks.{rule_of, is_first, must_forget, first_only};
 ghost use Rattle.machine_core.specs.Floors.{block_floor, floor_of_blocks, HoldsRests};
 
 use crate::machine::Machine;
-use crate::state::HeadRule;
+use crate::state::{HeadRule, Kind};
 
 /// The rule for the heads of a segment's block: the first block forgets what was played before it (this project's own choice).
 pub fn rule_at(block: u32) -> HeadRule
-    ensures { result ≡ rule_of None block }
+    ensures { result ≡ rule_of first_only block }
 {
     if block == 0 {
         HeadRule::FilterZero
@@ -19,7 +19,7 @@ pub fn rule_at(block: u32) -> HeadRule
 
 /// The rule for the heads of a sample's block: the first block and the first of the loop forget what was played before them.
 pub fn rule_in(loop_block: Option<u32>, block: u32) -> HeadRule
-    ensures { result ≡ rule_of loop_block block }
+    ensures { result ≡ rule_of (is_first loop_block) block }
 {
     match loop_block {
         Some(first) => {
@@ -30,6 +30,17 @@ pub fn rule_in(loop_block: Option<u32>, block: u32) -> HeadRule
             }
         }
         None => rule_at(block),
+    }
+}
+
+/// The rule for the heads of a sample's block in a format: in IMA ADPCM every block forgets, since it begins with its own first output.
+pub fn rule_for(kind: Kind, loop_block: Option<u32>, block: u32) -> HeadRule
+    ensures { result ≡ rule_of (must_forget kind loop_block) block }
+{
+    match kind {
+        Kind::Brr => rule_in(loop_block, block),
+        Kind::Spu => rule_in(loop_block, block),
+        Kind::Ima => HeadRule::FilterZero,
     }
 }
 
@@ -54,11 +65,11 @@ fn floor_at_block<M: Machine>(
 ) -> u64
     requires range { AreSamples targets.now }
     requires within { block * (M.rules machine.now).decoder.samples + (M.rules machine.now).decoder.samples ≤ length targets.now }
-    ensures value { result ≡ block_floor (M.rules machine.now) loop_block targets.now block }
-    ensures small { result < 2 ^ 44 }
+    ensures value { result ≡ block_floor (M.rules machine.now) (must_forget (M.rules machine.now).kind loop_block) targets.now block }
+    ensures small { result ≤ (M.rules machine.now).decoder.samples * 2 ^ 36 }
 {
     let window = window(targets, machine.block_samples(), block);
-    machine.block_floor(rule_in(loop_block, block), window)
+    machine.block_floor(rule_for(machine.kind(), loop_block, block), window)
 }
 
 /// The floor under a sample of so many blocks with this loop block, or under a segment of one, in squared 16-bit steps.
@@ -73,8 +84,8 @@ pub fn floor_of_blocks<M: Machine>(
     requires count { length targets.now ≡ blocks * (M.rules machine.now).decoder.samples }
     requires few { length targets.now ≤ 262144 }
     requires range { AreSamples targets.now }
-    ensures value { result ≡ floor_of_blocks (M.rules machine.now) loop_block targets.now blocks }
-    ensures small { result ≤ blocks * 2 ^ 44 }
+    ensures value { result ≡ floor_of_blocks (M.rules machine.now) (must_forget (M.rules machine.now).kind loop_block) targets.now blocks }
+    ensures small { result ≤ blocks * ((M.rules machine.now).decoder.samples * 2 ^ 36) }
 {
     let mut sum = 0;
     for block in 0..blocks {
@@ -97,7 +108,7 @@ pub fn fill_rests<M: Machine>(
     requires count { length targets.now ≡ (length rests.old - 1) * (M.rules machine.now).decoder.samples }
     requires few { length targets.now ≤ 262144 }
     requires range { AreSamples targets.now }
-    ensures { HoldsRests (M.rules machine.now) loop_block targets.now (length rests.old - 1) rests.new }
+    ensures { HoldsRests (M.rules machine.now) (must_forget (M.rules machine.now).kind loop_block) targets.now (length rests.old - 1) rests.new }
 {
     let blocks = rests.len() - 1;
     let mut sum = 0;

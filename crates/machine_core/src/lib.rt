@@ -8,11 +8,15 @@ mod laws;
 mod machine;
 mod segments;
 mod state;
+mod taken;
 
 pub use boxes::{Bx, Cell};
 pub use choice::Choice;
-pub use floors::{fill_rests, floor_of_blocks, rule_at, rule_in};
-pub use laws::{floors_hold, histories_fall_away, rests_hold, states_fit, sums_fit};
+pub use floors::{fill_rests, floor_of_blocks, rule_at, rule_for, rule_in};
+pub use laws::{
+    floors_hold, histories_fall_away, lanes_have_floors, rests_hold, states_fit, sums_fit,
+};
 pub use machine::Machine;
-pub use segments::{samples_have_segments, segments_join, segments_stand_alone, sums_split};
+pub use segments::{samples_have_segments, segments_make_the_whole, segments_stand_alone};
 pub use state::{HeadRule, Kind, State};
+pub use taken::Taken;

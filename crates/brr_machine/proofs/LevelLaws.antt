@@ -2,21 +2,18 @@
 use Rattle.std.proofs.Common.{◌≡◌, ℕ, suc, ◌-◌, ◌*◌, ◌^◌, ◌<◌, ◌≤◌, arith, refl, ap, sym, ◌∙◌, inl, inr}
 use Rattle.std.specs.Prelude.{ℤ, pos, negsuc, ◌*ℤ◌, ◌≤ℤ◌, nat_lt, if◌then◌else◌}
 use Rattle.std.proofs.lemmas.Int.{ints}
-use Rattle.std.proofs.lemmas.Bool.Decides.{nat_tests}
 use Rattle.std.proofs.Math.Nat.{pow-succ'}
 use Rattle.std.proofs.lemmas.Bool.{cases_lt, lt-ltb, le-ltb, cond-true, cond-false}
 use Rattle.adpcm_nums.specs.Nums.{floor_of}
 use Rattle.window_floor.specs.Quantizer.{AreLevels}
-use Rattle.brr_machine.specs.Brr.{nibble, sample_of}
+use Rattle.adpcm_nums.specs.Nibbles.{nibble}
+use Rattle.adpcm_nums.proofs.NearestLaws.{floor-low, floor-high}
+use Rattle.brr_machine.specs.Brr.{sample_of}
 use Rattle.brr_machine.specs.Floors.{samples_under}
 use Rattle.brr_machine.specs.Laws.Outcomes.{sample-at}
-use Rattle.brr_machine.proofs.Sizes.{floor-low, floor-high, nibble-low, nibble-high}
+use Rattle.adpcm_nums.proofs.NibbleValues.{nibble-low, nibble-high, code-of}
+use Rattle.window_floor.proofs.NibbleLevels.{levels-by}
 use Rattle.brr_machine.proofs.PlainCodes.{twice-sample}
-
--- each value of a nibble has a code
-code-of : (n : ℤ) → negsuc 7 ≤ℤ n → n ≤ℤ pos 7 → (i : ℕ) × (i < 16) × (nibble i ≡ n)
-code-of (pos a) h k = let small : a < 8 = omega (arith, ints) in (a, omega arith, grind (arith, ints, nat_tests))
-code-of (negsuc a) h k = let small : a < 8 = omega (arith, ints) in (15 - a, omega arith, grind (arith, ints, nat_tests))
 
 -- at shift 0 a code stands for the half of its nibble
 half : (c : ℕ) → sample_of 0 c ≡ floor_of (nibble c *ℤ pos 1) 2
@@ -60,11 +57,8 @@ multiple shift c some few =
     doubled (nibble c) (sample_of shift c) (2 ^ (shift - 1)) (twice-sample shift c some few ∙ ap (λ z. nibble c *ℤ pos z) power)
 
 pub levels_multiplied : (shift : ℕ) (step : ℤ) → 1 ≤ shift → shift < 13 → step ≡ pos (2 ^ (shift - 1)) → AreLevels step (negsuc 7) (pos 7) (samples_under shift)
-levels_multiplied shift step some few is = record {
-  are = λ i h. (nibble i, nibble-low i h, nibble-high i h, sample-at shift i h ∙ multiple shift i some few ∙ ap (λ z. z *ℤ nibble i) (sym is));
-  all = λ n h k. let code = code-of n h k in
-      (code.0, code.1, sample-at shift code.0 code.1 ∙ multiple shift code.0 some few ∙ ap (λ z. pos (2 ^ (shift - 1)) *ℤ z) code.2 ∙ ap (λ z. z *ℤ n) (sym is));
-}
+levels_multiplied shift step some few is =
+    levels-by step (samples_under shift) (λ i h. sample-at shift i h ∙ multiple shift i some few ∙ ap (λ z. z *ℤ nibble i) (sym is))
 
 -- from shift 13 on only the sign counts
 sign : (shift c : ℕ) → 13 ≤ shift → sample_of shift c ≡ (if nat_lt c 8 then pos 0 else negsuc 2047)

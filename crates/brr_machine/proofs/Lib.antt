@@ -1,17 +1,9 @@
 pub mod Pairs
 pub mod Reading
 pub mod Runs
-pub mod Sizes
 pub mod Fill
 pub mod ZeroCosts
 pub mod ZeroSums
 pub mod Predictions
-pub mod Picks
-pub mod Multiples
 pub mod PlainCodes
 pub mod LevelLaws
-pub mod NearLevels
-pub mod FloorCosts
-pub mod FloorParts
-pub mod FloorTable
-pub mod LeastFloor

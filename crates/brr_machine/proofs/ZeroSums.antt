@@ -1,12 +1,12 @@
 -- The error of a block of filter 0: place by place, and against every other block.
 use Rattle.std.proofs.Common.{◌≡◌, ℕ, zero, suc, ◌+◌, ◌*◌, ◌/◌, ◌%◌, ◌<◌, ◌≤◌, arith, refl, ap, sym, ◌∙◌, subst, List, get_or, length}
-use Rattle.std.specs.Prelude.{ℤ, pos, None}
+use Rattle.std.specs.Prelude.{ℤ, pos}
 use Rattle.std.proofs.lemmas.Bool.{eqb-true}
 use Rattle.std.proofs.lemmas.List.{get_or-map}
 use Rattle.adpcm_nums.specs.Least.{IsFirstLeast}
 use Rattle.adpcm_nums.proofs.LeastLaws.{first_least-is, is_first_least_at}
 use Rattle.machine_core.specs.Decoder.{Decoder}
-use Rattle.machine_core.specs.Blocks.{Blocks, IsLegal, symbol_at}
+use Rattle.machine_core.specs.Blocks.{Blocks, IsLegal, symbol_at, first_only}
 use Rattle.machine_core.specs.Sums.{cost_at, sum_from, sum_of}
 use Rattle.brr_machine.specs.Brr.{brr}
 use Rattle.brr_machine.specs.Zero.{zero_head, code_cost, nearest_code, nearest_codes, one_block, shift_sum, best_shift, zero_sum}
@@ -79,15 +79,15 @@ four-times : (head : ℕ) → head % 4 ≡ 0 → head ≡ 4 * (head / 4)
 four-times head h = omega arith
 
 -- no block of filter 0 costs less than the best one
-pub zero-least : (targets : List ℤ) (list : Blocks) → length targets ≡ 16 → IsLegal brr 1 None list → zero_sum targets ≤ sum_of brr list targets 1
+pub zero-least : (targets : List ℤ) (list : Blocks) → length targets ≡ 16 → IsLegal brr 1 first_only list → zero_sum targets ≤ sum_of brr list targets 1
 zero-least targets list len legal =
     let head : ℕ = get_or list.heads 0 0 in
-    let fits : head < 64 = legal.heads_fit 0 (omega arith) in
-    let filter : head % 4 ≡ 0 = eqb-true _ _ (legal.heads_allowed 0 (omega arith)) in
+    let fits : head < 64 = legal.in_range.heads_fit 0 (omega arith) in
+    let filter : head % 4 ≡ 0 = eqb-true _ _ (legal.obeys.allowed 0 (omega arith)) in
     let shift : head / 4 < 16 = omega (arith, fits) in
-    omega (arith, best-least targets (head / 4) shift, shift-least list targets (head / 4) len (four-times head filter) (λ k h. legal.symbols_fit k h))
+    omega (arith, best-least targets (head / 4) shift, shift-least list targets (head / 4) len (four-times head filter) (λ k h. legal.in_range.symbols_fit k h))
 
-pub sum_below : (targets : List ℤ) (list : Blocks) (sum : ℕ) → length targets ≡ 16 → IsLegal brr 1 None list → sum ≡ zero_sum targets → sum ≤ sum_of brr list targets 1
+pub sum_below : (targets : List ℤ) (list : Blocks) (sum : ℕ) → length targets ≡ 16 → IsLegal brr 1 first_only list → sum ≡ zero_sum targets → sum ≤ sum_of brr list targets 1
 sum_below targets list sum len legal is = let P : ℕ → Type 0 = λ n. n ≤ sum_of brr list targets 1 in subst P (sym is) (zero-least targets list len legal)
 
 -- the shift that a loop over all shifts has found

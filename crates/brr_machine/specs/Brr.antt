@@ -1,14 +1,11 @@
 -- The decoder of the SNES's bit rate reduction, one sample at a time (fullsnes, BRR samples).
-use Rattle.std.specs.Prelude.{ℕ, zero, suc, ◌-◌, ◌/◌, ◌%◌, ◌^◌, ◌==◌, ◌&&◌, nat_lt, if◌then◌else◌, ℤ, pos, negsuc, ◌+ℤ◌, ◌*ℤ◌, ◌-ℤ◌, int_le, Bool, true}
+use Rattle.std.specs.Prelude.{ℕ, zero, suc, ◌/◌, ◌%◌, ◌^◌, ◌==◌, ◌&&◌, nat_lt, if◌then◌else◌, ℤ, pos, negsuc, ◌+ℤ◌, ◌*ℤ◌, ◌-ℤ◌, int_le, Bool, true}
 use Rattle.adpcm_nums.specs.Nums.{floor_of, clamp16_of, wrap15_of}
+use Rattle.adpcm_nums.specs.Nibbles.{nibble}
 use Rattle.machine_core.specs.declared.state.State.{State}
 use Rattle.machine_core.specs.declared.state.HeadRule.{HeadRule}
 use Rattle.machine_core.specs.declared.state.HeadRule.TheVariants.{AnyHead, FilterZero}
 use Rattle.machine_core.specs.Decoder.{Decoder}
-
--- the signed value of a 4-bit code
-abbrev pub nibble : ℕ → ℤ
-nibble code = if nat_lt code 8 then pos code else negsuc (15 - code)
 
 -- what a code stands for under a shift; shifts 13 to 15 keep only the sign (this project's own choice)
 unfoldable pub sample_of : ℕ → ℕ → ℤ

@@ -19,6 +19,7 @@ brr_rules = record {
   is_box = λ p bx. is_brr_box bx;
   whole = all_states;
   floor = λ head p bx targets. brr_floor head p targets;
+  floors_a_place = 1;
   floor_len = 17;
   floor_read = λ head p bx table. get_or table p 0;
 }

@@ -2,8 +2,8 @@ pub mod Brr
 pub mod Spelling
 pub mod Zero
 pub mod Predicted
-pub mod Picks
 pub mod Boxes
+pub mod Rows
 pub mod Floors
 pub mod BrrRules
 pub mod Laws

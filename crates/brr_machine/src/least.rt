@@ -5,7 +5,7 @@ ghost use Rattle.brr_machine.specs.Brr.{allows_head};
 ghost use Rattle.brr_machine.specs.BrrRules.{brr_rules};
 ghost use Rattle.brr_machine.specs.Floors.{brr_floor};
 
-use crate::floors::own;
+use crate::floors::floor_below;
 use machine_core::HeadRule;
 
 /// Whether a rule allows a head: the first block of a sample or of a loop must have filter 0.
@@ -16,24 +16,6 @@ pub(crate) fn allows_head(head: u32, rule: HeadRule) -> bool
         HeadRule::AnyHead => true,
         HeadRule::FilterZero => head % 4 == 0,
     }
-}
-
-/// The floor under a block under a head where that is less than `most`, and else some number that is at least `most`:
-/// windows are added up only as long as the sum may still be the least.
-fn floor_below(head: u32, targets: &[i32], most: u64) -> u64
-    requires head { head < 64 }
-    requires count { length targets.now ≡ 16 }
-    requires targets { AreSamples targets.now }
-    ensures { min result most ≡ min (brr_floor head 0 targets.now) most }
-{
-    let mut sum = 0;
-    for place in 0..16usize {
-        if sum >= most {
-            return sum;
-        }
-        sum += own(head, targets, place);
-    }
-    sum
 }
 
 /// The floor under a block of these targets under any head that the rule allows.

@@ -11,9 +11,11 @@ mod levels;
 mod machine;
 mod nearest;
 mod plain;
+mod row;
 mod sample;
 mod step;
 mod stored;
+mod taken;
 mod zero;
 
 pub use block::{BrrBlock, read_block, spell_block};

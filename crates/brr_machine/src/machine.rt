@@ -6,7 +6,8 @@ use crate::floors::fill_floors;
 use crate::least::{allows_head, least_floor};
 use crate::nearest::{nearest_code, output_cost};
 use crate::step::brr_output;
-use machine_core::{Bx, HeadRule, Kind, Machine, State};
+use crate::taken::taken_from;
+use machine_core::{Bx, HeadRule, Kind, Machine, State, Taken};
 
 /// The decoder of the SNES's bit rate reduction (fullsnes, BRR samples).
 ///
@@ -56,6 +57,10 @@ impl Machine for Brr {
 
     fn nearest(&self, head: u32, _pos: u32, from: State, target: i32) -> u32 {
         nearest_code(head / 4, predict(head % 4, from.a, from.b), target)
+    }
+
+    fn take_nearest(&self, head: u32, _pos: u32, from: State, target: i32) -> Taken {
+        taken_from(head, from, target)
     }
 
     fn block_floor(&self, rule: HeadRule, targets: &[i32]) -> u64 {

@@ -32,7 +32,7 @@ fn raw(shift: u32, prediction: i64, code: u32) -> i64
 
 /// The output of a code on top of a prediction.
 #[tactic(auto, unfolding(crate::specs::Predicted::predicted_output))]
-fn predicted_output(shift: u32, prediction: i64, code: u32) -> i32
+pub(crate) fn predicted_output(shift: u32, prediction: i64, code: u32) -> i32
     requires shift { shift < 16 }
     requires prediction_low { negsuc 1000000 ≤ℤ prediction }
     requires prediction_high { prediction ≤ℤ pos 1000000 }

@@ -1,19 +1,7 @@
 ghost use Rattle.std.specs.Prelude.{◌≡◌, ◌<◌, ℤ, pos, negsuc, ◌≤ℤ◌};
-ghost use Rattle.brr_machine.specs.Brr.{nibble, sample_of};
+ghost use Rattle.brr_machine.specs.Brr.{sample_of};
 
-use adpcm_nums::floor_shift;
-
-/// The signed value of a 4-bit code.
-fn nibble_value(code: u32) -> i64
-    requires { code < 16 }
-    ensures { result ≡ nibble code }
-{
-    if code < 8 {
-        i64::from(code)
-    } else {
-        i64::from(code) - 16
-    }
-}
+use adpcm_nums::{floor_shift, nibble_value};
 
 /// What a code stands for under a shift (fullsnes, BRR samples). From shift 13 on only its sign counts, which is this
 /// project's own choice.
@@ -33,7 +21,7 @@ fn shifted(shift: u32, code: u32) -> i64
 }
 
 /// The same, with what is known of its size.
-#[tactic(auto, using(crate::proofs::Sizes::sample_low, crate::proofs::Sizes::sample_high))]
+#[tactic(auto, using(crate::specs::Laws::Samples::sample_low, crate::specs::Laws::Samples::sample_high))]
 pub(crate) fn sample(shift: u32, code: u32) -> i64
     requires shift { shift < 16 }
     requires code { code < 16 }

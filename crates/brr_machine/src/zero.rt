@@ -1,6 +1,6 @@
-ghost use Rattle.std.specs.Prelude.{◌≡◌, ◌≤◌, ◌<◌, ℤ, List, length, All, None};
+ghost use Rattle.std.specs.Prelude.{◌≡◌, ◌≤◌, ◌<◌, ℤ, List, length, All};
 ghost use Rattle.adpcm_nums.specs.Sample.{AreSamples};
-ghost use Rattle.machine_core.specs.Blocks.{Blocks, IsLegal};
+ghost use Rattle.machine_core.specs.Blocks.{Blocks, IsLegal, first_only};
 ghost use Rattle.machine_core.specs.Sums.{sum_of};
 ghost use Rattle.brr_machine.specs.Brr.{brr};
 ghost use Rattle.brr_machine.specs.Zero.{zero_head, nearest_codes, shift_sum, best_shift, zero_sum};
@@ -38,7 +38,7 @@ pub fn encode_zero(targets: &[i32; 16]) -> (BrrBlock, u64)
     ensures codes { result.0.codes ≡ nearest_codes (best_shift targets.now) targets.now }
     ensures sum { result.1 ≡ zero_sum targets.now }
     // No block of filter 0 has a smaller sum.
-    ensures least { (list : Blocks) → IsLegal brr 1 None list → result.1 ≤ sum_of brr list targets.now 1 }
+    ensures least { (list : Blocks) → IsLegal brr 1 first_only list → result.1 ≤ sum_of brr list targets.now 1 }
 {
     let (mut codes, mut least) = nearest_block(0, targets);
     let mut best = 0;
@@ -60,5 +60,5 @@ pub fn encode_zero(targets: &[i32; 16]) -> (BrrBlock, u64)
 
 /// No block of filter 0 has a smaller error than the one that `encode_zero` makes, whatever the sixteen targets.
 pub fn zero_is_least()
-    ensures { (targets : List ℤ) (list : Blocks) → length targets ≡ 16 → IsLegal brr 1 None list → zero_sum targets ≤ sum_of brr list targets 1 }
+    ensures { (targets : List ℤ) (list : Blocks) → length targets ≡ 16 → IsLegal brr 1 first_only list → zero_sum targets ≤ sum_of brr list targets 1 }
 {}

@@ -5,14 +5,16 @@ use Rattle.std.proofs.lemmas.Int.{ints}
 use Rattle.window_floor.specs.Row.{Row}
 use Rattle.window_floor.specs.Miss.{miss_of, rounded_miss}
 use Rattle.window_floor.specs.Quantizer.{IsAim}
-use Rattle.window_floor.proofs.LeastLaws.{least_of-below, least_of-reached}
-use Rattle.window_floor.proofs.Orders.{le-or-gt, in-order, nearer-below, nearer-above}
+use Rattle.adpcm_nums.proofs.LeastValueLaws.{least_of-below, least_of-reached}
+use Rattle.adpcm_nums.proofs.OrderLaws.{le-or-gt}
+use Rattle.window_floor.proofs.Orders.{in-order, nearer-below, nearer-above}
 
 -- a miss as the distance of a multiple of the scale
 miss-of : (w : Row) (rho a v : ℤ) (e : ℕ) → v ≡ w.d *ℤ a +ℤ w.bias -ℤ pos e → miss_of w rho a e ≡ unsigned_abs (rho -ℤ w.scale *ℤ v)
 unfolding miss_of
 miss-of w rho a v e h = ap (λ z. unsigned_abs (rho -ℤ w.scale *ℤ z)) (sym h)
 
+-- of two samples that do not reach rho the greater one misses by less
 pub rounded-under : (w : Row) (rho a b : ℤ) → pos 0 ≤ℤ w.scale → pos 0 ≤ℤ w.d → a ≤ℤ b → (w.scale *ℤ (w.d *ℤ b +ℤ w.bias)) ≤ℤ rho → rounded_miss w rho b ≤ rounded_miss w rho a
 unfolding rounded_miss
 rounded-under w rho a b s d h k =
@@ -27,12 +29,15 @@ rounded-under w rho a b s d h k =
     let here = miss-of w rho b u 0 (omega (arith, ints)) in
     omega (arith, low, near, there.2, at, here)
 
+-- a number below another is that one less their distance
 fall : (u v : ℤ) → v ≤ℤ u → v ≡ u -ℤ pos (unsigned_abs (u -ℤ v))
 fall u v h = omega (arith, ints)
 
+-- which is no more than what rounding takes away
 fall-small : (u v x : ℤ) (e n : ℕ) → u ≤ℤ x → v ≡ x -ℤ pos e → e ≤ n → v ≤ℤ u → unsigned_abs (u -ℤ v) ≤ n
 fall-small u v x e n h k l m = omega (arith, ints)
 
+-- of two samples that reach rho the smaller one misses by less
 pub rounded-over : (w : Row) (rho a b : ℤ) → pos 0 ≤ℤ w.scale → pos 0 ≤ℤ w.d → b ≤ℤ a → rho ≤ℤ (w.scale *ℤ (w.d *ℤ b +ℤ w.bias)) → rounded_miss w rho b ≤ rounded_miss w rho a
 unfolding rounded_miss
 rounded-over w rho a b s d h k =
@@ -64,6 +69,7 @@ under-aim w rho aim a b s d is h k =
     let below = is.below in
     rounded-under w rho a b s d h (omega (arith, ints, times, below))
 
+-- and above it
 pub over-aim : (w : Row) (rho aim a b : ℤ) → pos 0 ≤ℤ w.scale → pos 0 ≤ℤ w.d → IsAim w rho aim → b ≤ℤ a → aim <ℤ b → rounded_miss w rho b ≤ rounded_miss w rho a
 over-aim w rho aim a b s d is h k =
     let step = in-order w.d (aim +ℤ pos 1) b d (omega (arith, ints, k)) in

@@ -8,6 +8,7 @@ use Rattle.window_floor.proofs.Products.{mul-sub, mul-swap}
 error-times : (d s y x : ℤ) → d *ℤ (s *ℤ y -ℤ x) ≡ s *ℤ (d *ℤ y) -ℤ d *ℤ x
 error-times d s y x = mul-sub d (s *ℤ y) x ∙ ap (λ z. z -ℤ d *ℤ x) (mul-swap d s y)
 
+-- a factor times a difference of three
 three-times : (s p q r : ℤ) → s *ℤ (p -ℤ q -ℤ r) ≡ s *ℤ p -ℤ s *ℤ q -ℤ s *ℤ r
 three-times s p q r = mul-sub s (p -ℤ q) r ∙ ap (λ z. z -ℤ s *ℤ r) (mul-sub s p q)
 

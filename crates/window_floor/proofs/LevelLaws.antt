@@ -8,9 +8,10 @@ use Rattle.window_floor.specs.Row.{Row}
 use Rattle.window_floor.specs.Miss.{miss_of, rounded_miss, least_miss}
 use Rattle.window_floor.specs.Outcome.{IsWrap, none, up, down}
 use Rattle.window_floor.specs.Quantizer.{AreLevels, IsAim, IsLevelMiss}
-use Rattle.window_floor.proofs.LeastLaws.{min-two, least_of-below, least_of-reached}
+use Rattle.adpcm_nums.proofs.LeastValueLaws.{min-is, least_of-below, least_of-reached}
 use Rattle.window_floor.proofs.MissLaws.{miss-below, miss-reached}
-use Rattle.window_floor.proofs.Orders.{le-or-gt, in-order}
+use Rattle.adpcm_nums.proofs.OrderLaws.{le-or-gt}
+use Rattle.window_floor.proofs.Orders.{in-order}
 use Rattle.window_floor.proofs.AimLaws.{under-aim, over-aim}
 
 -- n is the number of the last level that is not above x, or of the lowest level
@@ -29,6 +30,7 @@ before w rho aim step low high wrap x n i s d p is e under l h =
       | inr below ↦ (let order = in-order step i n p h in under-aim w rho aim (step *ℤ i -ℤ wrap) (step *ℤ n -ℤ wrap) s d is (omega (arith, ints, order)) (omega (arith, ints, below, e)))
     ]
 
+-- and so is a level from the next one on
 after : (w : Row) (rho aim step low high wrap x n i : ℤ) → pos 0 ≤ℤ w.scale → pos 0 ≤ℤ w.d → pos 0 ≤ℤ step → IsAim w rho aim → x ≡ aim +ℤ wrap → IsUnder step low high x n
     → i ≤ℤ high → n <ℤ i → rounded_miss w rho (step *ℤ (n +ℤ pos 1) -ℤ wrap) ≤ rounded_miss w rho (step *ℤ i -ℤ wrap)
 after w rho aim step low high wrap x n i s d p is e under l h =
@@ -44,6 +46,7 @@ pub level-miss : (w : Row) (rho step n k level a t : ℤ) (m : ℕ) → level �
     → m ≡ rounded_miss w rho (step *ℤ n -ℤ pos 32768 *ℤ k)
 level-miss w rho step n k level a t m p q r e = e ∙ (ap (λ z. rounded_miss w z a) r ∙ ap (rounded_miss w rho) (q ∙ ap (λ z. z -ℤ pos 32768 *ℤ k) p))
 
+-- two numbers that are at most each other are the same
 one-number : (k j : ℤ) → k ≤ℤ j → j ≤ℤ k → k ≡ j
 one-number k j h l = omega (arith, ints)
 
@@ -66,12 +69,13 @@ copy-is w rho aim step low high k x n next m here there s d p is e under which l
     ] in
     record {
       least = λ i j a b c f. subst (λ (z : ℤ). m ≤ rounded_miss w rho (step *ℤ i -ℤ pos 32768 *ℤ z)) (one-number k j c f) (least i a b);
-      reached = elim (min-two here there) as (λ _. (i : ℤ) × (j : ℤ) × (low ≤ℤ i) × (i ≤ℤ high) × (k ≤ℤ j) × (j ≤ℤ k) × (m ≡ rounded_miss w rho (step *ℤ i -ℤ pos 32768 *ℤ j))) [
+      reached = elim (min-is here there) as (λ _. (i : ℤ) × (j : ℤ) × (low ≤ℤ i) × (i ≤ℤ high) × (k ≤ℤ j) × (j ≤ℤ k) × (m ≡ rounded_miss w rho (step *ℤ i -ℤ pos 32768 *ℤ j))) [
         | inl e ↦ (n, k, under.least, under.most, ≤ℤ_refl k, ≤ℤ_refl k, both ∙ e ∙ at)
         | inr e ↦ (next, k, l, h, ≤ℤ_refl k, ≤ℤ_refl k, both ∙ e ∙ then)
       ];
     }
 
+-- a number of 0..1 is 1 or at most 0
 zero-or-one : (k : ℤ) → pos 0 ≤ℤ k → k ≤ℤ pos 1 → (pos 1 ≡ k) ⊎ (k ≤ℤ pos 0)
 zero-or-one k h l = grind (arith, ints)
 
@@ -85,7 +89,7 @@ lower-is w rho step low high m x y plain lower e =
         | inl one ↦ (let p = lower.least n k l u (omega (arith, ints, one)) f in omega (arith, p, e))
         | inr zero ↦ (let p = plain.least n k l u c zero in omega (arith, p, e))
       ];
-      reached = elim (min-two x y) as (λ _. (n : ℤ) × (k : ℤ) × (low ≤ℤ n) × (n ≤ℤ high) × (pos 0 ≤ℤ k) × (k ≤ℤ pos 1) × (m ≡ rounded_miss w rho (step *ℤ n -ℤ pos 32768 *ℤ k))) [
+      reached = elim (min-is x y) as (λ _. (n : ℤ) × (k : ℤ) × (low ≤ℤ n) × (n ≤ℤ high) × (pos 0 ≤ℤ k) × (k ≤ℤ pos 1) × (m ≡ rounded_miss w rho (step *ℤ n -ℤ pos 32768 *ℤ k))) [
         | inl q ↦ (a.0, a.1, a.2, a.3, a.4, (let f = a.5 in omega (arith, ints, f)), e ∙ q ∙ a.6)
         | inr q ↦ (b.0, b.1, b.2, b.3, (let f = b.4 in omega (arith, ints, f)), b.5, e ∙ q ∙ b.6)
       ];
@@ -108,6 +112,7 @@ lower-skipped w rho aim step low high m s d p o is narrow under plain =
       reached = (a.0, a.1, a.2, a.3, a.4, (let f = a.5 in omega (arith, ints, f)), a.6);
     }
 
+-- a number of -1..1 is -1 or at least 0
 less-or-more : (k : ℤ) → negsuc 0 ≤ℤ k → k ≤ℤ pos 1 → (negsuc 0 ≡ k) ⊎ (pos 0 ≤ℤ k)
 less-or-more k h l = grind (arith, ints)
 
@@ -121,12 +126,13 @@ upper-is w rho step low high m x y lower upper e =
         | inl less ↦ (let p = upper.least n k l u c (omega (arith, ints, less)) in omega (arith, p, e))
         | inr more ↦ (let p = lower.least n k l u more f in omega (arith, p, e))
       ];
-      reached = elim (min-two x y) as (λ _. (n : ℤ) × (k : ℤ) × (low ≤ℤ n) × (n ≤ℤ high) × (negsuc 0 ≤ℤ k) × (k ≤ℤ pos 1) × (m ≡ rounded_miss w rho (step *ℤ n -ℤ pos 32768 *ℤ k))) [
+      reached = elim (min-is x y) as (λ _. (n : ℤ) × (k : ℤ) × (low ≤ℤ n) × (n ≤ℤ high) × (negsuc 0 ≤ℤ k) × (k ≤ℤ pos 1) × (m ≡ rounded_miss w rho (step *ℤ n -ℤ pos 32768 *ℤ k))) [
         | inl q ↦ (a.0, a.1, a.2, a.3, (let f = a.4 in omega (arith, ints, f)), a.5, e ∙ q ∙ a.6)
         | inr q ↦ (b.0, b.1, b.2, b.3, b.4, (let f = b.5 in omega (arith, ints, f)), e ∙ q ∙ b.6)
       ];
     }
 
+-- which are no nearer where the highest level lies between them and the aim
 pub upper-skipped : (w : Row) (rho aim step low high : ℤ) (m : ℕ) → pos 0 ≤ℤ w.scale → pos 0 ≤ℤ w.d → pos 0 ≤ℤ step → low ≤ℤ high → IsAim w rho aim
     → (step *ℤ high) ≤ℤ (step *ℤ low +ℤ pos 32768) → aim <ℤ (step *ℤ high) → IsLevelMiss w rho step low high (pos 0) (pos 1) m → IsLevelMiss w rho step low high (negsuc 0) (pos 1) m
 upper-skipped w rho aim step low high m s d p o is narrow above lower =
@@ -168,9 +174,11 @@ no-wrap b k h (none c) = (omega (arith, ints), omega (arith, ints))
 no-wrap b k h up = absurd (true≢false h)
 no-wrap b k h down = absurd (true≢false h)
 
+-- where there is none
 plain-wrap : (b : Bool) (k : ℤ) → pos 0 ≤ℤ k → k ≤ℤ pos 0 → IsWrap b k
 plain-wrap b k h l = subst (λ (z : ℤ). IsWrap b z) (one-number (pos 0) k h l) (none b)
 
+-- without wraps
 pub plain-is : (w : Row) (rho step low high : ℤ) (samples : List ℤ) (m : ℕ) → w.wraps ≡ false → AreLevels step low high samples
     → IsLevelMiss w rho step low high (pos 0) (pos 0) m → m ≡ least_miss w rho samples
 plain-is w rho step low high samples m h levels is =
@@ -182,6 +190,7 @@ some-wrap b k (none c) = (omega (arith, ints), omega (arith, ints))
 some-wrap b k up = (omega (arith, ints), omega (arith, ints))
 some-wrap b k down = (omega (arith, ints), omega (arith, ints))
 
+-- each of the three is one
 any-wrap : (b : Bool) (k : ℤ) → b ≡ true → negsuc 0 ≤ℤ k → k ≤ℤ pos 1 → IsWrap b k
 any-wrap b k h c f =
     elim (less-or-more k c f) [
@@ -192,6 +201,7 @@ any-wrap b k h c f =
       ]
     ]
 
+-- with wraps
 pub wrapped-is : (w : Row) (rho step low high : ℤ) (samples : List ℤ) (m : ℕ) → w.wraps ≡ true → AreLevels step low high samples
     → IsLevelMiss w rho step low high (negsuc 0) (pos 1) m → m ≡ least_miss w rho samples
 wrapped-is w rho step low high samples m h levels is =

@@ -1,8 +1,10 @@
 pub mod Ranges
-pub mod LeastValue
 pub mod Row
-pub mod Numbers
 pub mod Miss
 pub mod Quantizer
 pub mod Floor
 pub mod Outcome
+pub mod Cut
+pub mod Windows
+pub mod Following
+pub mod Numbers

@@ -1,6 +1,6 @@
 -- How far the outputs that a filter can give are from the targets of a window.
 use Rattle.std.specs.Prelude.{ℕ, ℤ, pos, ◌+ℤ◌, ◌-ℤ◌, ◌*ℤ◌, unsigned_abs, min, if◌then◌else◌, List, get_or}
-use Rattle.window_floor.specs.LeastValue.{least_of}
+use Rattle.adpcm_nums.specs.LeastValue.{least_of}
 use Rattle.window_floor.specs.Row.{Row}
 
 -- what the targets make of the filter's equation, where r, o and x are those of three places in order

@@ -8,10 +8,11 @@ use crate::window::Window;
 use adpcm_nums::square;
 
 /// How far an output is from a target, squared.
-fn cost(w: Window, output: i32, target: i32) -> u64
+pub(crate) fn cost(w: Window, output: i32, target: i32) -> u64
     requires output { IsSample output }
     requires target { IsSample target }
-    ensures { result ≡ output_cost (row_of w) output target }
+    ensures value { result ≡ output_cost (row_of w) output target }
+    ensures small { result ≤ 2 ^ 34 }
 {
     square(apart(w.scale, i64::from(output), i64::from(target)))
 }
@@ -50,127 +51,4 @@ pub fn linear_floor(w: Window, samples: &[i32; 16], ends: [i32; 2], targets: [i3
 {
     let rho = rho(w, targets[0], targets[1], targets[2]);
     floor_at(w, at_sample(w, rho, samples), ends, targets[2])
-}
-
-#[cfg(test)]
-mod tests {
-    use super::linear_floor;
-    use crate::window::Window;
-
-    /// Values of tests/outside/window_floor.py, which tries every sample, rounding and wrap.
-    #[test]
-    fn tried_windows(rt: HostRuntime) {
-        let brr = [
-            0, 32, 64, 96, 128, 160, 192, 224, -256, -224, -192, -160, -128, -96, -64, -32,
-        ];
-        let spu = [
-            0, 256, 512, 768, 1024, 1280, 1536, 1792, -2048, -1792, -1536, -1280, -1024, -768,
-            -512, -256,
-        ];
-        assert_eq!(rt;
-            linear_floor(Window::brr(1), &brr, [-1, 0], [0, 480, 405]),
-            193
-        );
-        assert_eq!(rt;
-            linear_floor(Window::brr(1), &brr, [-1, 0], [0, 1288, -19463]),
-            216237256
-        );
-        assert_eq!(rt;
-            linear_floor(Window::brr(2), &brr, [-1, 0], [786, -330, 173]),
-            29929
-        );
-        assert_eq!(rt;
-            linear_floor(Window::brr(2), &brr, [-1, 0], [-10568, -29232, 21171]),
-            182490
-        );
-        assert_eq!(rt;
-            linear_floor(Window::brr(3), &brr, [-1, 0], [-167, -847, -789]),
-            4558
-        );
-        assert_eq!(rt;
-            linear_floor(Window::brr(3), &brr, [-1, 0], [-16374, 9062, 29413]),
-            66
-        );
-        assert_eq!(rt;
-            linear_floor(Window::spu(1), &spu, [32767, -32768], [0, 189, -80]),
-            1
-        );
-        assert_eq!(rt;
-            linear_floor(Window::spu(1), &spu, [32767, -32768], [0, -5420, -6578]),
-            800
-        );
-        assert_eq!(rt;
-            linear_floor(Window::spu(2), &spu, [32767, -32768], [-351, 280, 860]),
-            1037
-        );
-        assert_eq!(rt;
-            linear_floor(Window::spu(2), &spu, [32767, -32768], [11215, 10320, 23248]),
-            29572010
-        );
-        assert_eq!(rt;
-            linear_floor(Window::spu(3), &spu, [32767, -32768], [-811, 285, 60]),
-            586
-        );
-        assert_eq!(rt;
-            linear_floor(
-                Window::spu(3),
-                &spu,
-                [32767, -32768],
-                [31734, 20307, -22091]
-            ),
-            113998329
-        );
-        assert_eq!(rt;
-            linear_floor(Window::spu(4), &spu, [32767, -32768], [-578, 173, -504]),
-            1644
-        );
-        assert_eq!(rt;
-            linear_floor(
-                Window::spu(4),
-                &spu,
-                [32767, -32768],
-                [-28168, -6316, -20379]
-            ),
-            153487321
-        );
-    }
-
-    #[test]
-    fn clamped_outputs(rt: HostRuntime) {
-        let brr = [
-            0, 32, 64, 96, 128, 160, 192, 224, -256, -224, -192, -160, -128, -96, -64, -32,
-        ];
-        let spu = [
-            0, 256, 512, 768, 1024, 1280, 1536, 1792, -2048, -1792, -1536, -1280, -1024, -768,
-            -512, -256,
-        ];
-        assert_eq!(rt;
-            linear_floor(Window::brr(2), &brr, [-1, 0], [-30000, -200, -2]),
-            0
-        );
-        assert_eq!(rt;
-            linear_floor(Window::brr(2), &brr, [-1, 0], [-30000, -200, 0]),
-            0
-        );
-        assert_eq!(rt;
-            linear_floor(Window::spu(1), &spu, [32767, -32768], [0, 5, 32766]),
-            1
-        );
-        assert_eq!(rt;
-            linear_floor(Window::spu(1), &spu, [32767, -32768], [0, 5, -32768]),
-            0
-        );
-    }
-
-    #[test]
-    fn equation_met(rt: HostRuntime) {
-        let samples = [
-            0, 1024, 2048, 3072, 4096, 5120, 6144, 7168, -8192, -7168, -6144, -5120, -4096, -3072,
-            -2048, -1024,
-        ];
-        assert_eq!(rt;
-            linear_floor(Window::brr(1), &samples, [-1, 0], [0, 2, 6144]),
-            0
-        );
-    }
 }

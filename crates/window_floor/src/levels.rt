@@ -6,10 +6,10 @@ ghost use Rattle.window_floor.specs.Floor.{floor_of_window};
 ghost use Rattle.window_floor.specs.Quantizer.{AreLevels, IsAim, IsLevelMiss};
 
 use crate::floor::floor_at;
-use crate::miss::{WRAP, apart, at_rounding, rho};
+use crate::miss::{WRAP, at_rounding, rho};
 use crate::quantizer::Quantizer;
 use crate::window::Window;
-use adpcm_nums::floor_div;
+use adpcm_nums::{floor_div, multiple};
 
 /// The greatest a with `scale * (d * a + bias)` at most `rho`. Of two samples on one side of it the nearer one does not
 /// miss by more.
@@ -20,8 +20,8 @@ fn aim(w: Window, rho: i64) -> i64
     ensures low { negsuc (2 ^ 28) ≤ℤ result }
     ensures high { result ≤ℤ pos (2 ^ 28) }
 {
-    let bias = apart(w.scale, w.bias, 0);
-    floor_div(rho - bias, apart(w.scale, w.d, 0))
+    let bias = multiple(w.scale, w.bias);
+    floor_div(rho - bias, multiple(w.scale, w.d))
 }
 
 /// The least miss over the roundings at a level, less `wraps` times a wrap.
@@ -125,68 +125,4 @@ pub fn quantizer_floor(w: Window, quantizer: Quantizer, ends: [i32; 2], targets:
 {
     let rho = rho(w, targets[0], targets[1], targets[2]);
     floor_at(w, at_quantizer(w, rho, quantizer), ends, targets[2])
-}
-
-#[cfg(test)]
-mod tests {
-    use super::quantizer_floor;
-    use crate::quantizer::Quantizer;
-    use crate::window::Window;
-
-    /// The quantizer of all sixteen codes.
-    fn sixteen(step: i64) -> Quantizer
-        requires low { pos 1 ≤ℤ step }
-        requires high { step ≤ℤ pos 4096 }
-    {
-        Quantizer {
-            step,
-            low: -8,
-            high: 7,
-        }
-    }
-
-    /// Values of tests/outside/window_floor.py, which tries every sample, rounding and wrap.
-    #[test]
-    fn tried_windows(rt: HostRuntime) {
-        let brr = sixteen(32);
-        let spu = sixteen(256);
-        assert_eq!(rt;
-            quantizer_floor(Window::brr(1), brr, [-1, 0], [0, 480, 405]),
-            193
-        );
-        assert_eq!(rt;
-            quantizer_floor(Window::brr(2), brr, [-1, 0], [-10568, -29232, 21171]),
-            182490
-        );
-        assert_eq!(rt;
-            quantizer_floor(Window::brr(3), brr, [-1, 0], [-16374, 9062, 29413]),
-            66
-        );
-        assert_eq!(rt;
-            quantizer_floor(Window::spu(2), spu, [32767, -32768], [-351, 280, 860]),
-            1037
-        );
-        assert_eq!(rt;
-            quantizer_floor(Window::spu(3), spu, [32767, -32768], [31734, 20307, -22091]),
-            113998329
-        );
-    }
-
-    /// Values that tests/outside/window_floor.py asserts.
-    #[test]
-    fn coarse_levels(rt: HostRuntime) {
-        assert_eq!(rt;
-            quantizer_floor(Window::brr(1), sixteen(1024), [-1, 0], [0, 2, 6144]),
-            0
-        );
-        let two = Quantizer {
-            step: 2048,
-            low: -1,
-            high: 0,
-        };
-        assert_eq!(rt;
-            quantizer_floor(Window::brr(1), two, [-1, 0], [0, 0, 100]),
-            5323
-        );
-    }
 }

@@ -7,17 +7,26 @@
 //! dividing.
 #![tactic(auto)]
 
+mod block;
 mod floor;
 mod levels;
 mod miss;
+mod places;
 mod quantizer;
+mod table;
 mod theorem;
 mod window;
 
+pub use block::BlockWindows;
 pub use floor::linear_floor;
 pub use levels::quantizer_floor;
 pub use quantizer::Quantizer;
+pub use table::{fill_floors, floor_below};
 pub use theorem::{
-    miss_is_least, no_pair_is_cheaper, no_three_are_cheaper, rows_are_normed, three_products,
+    floors_fit, floors_hold, miss_is_least, no_pair_is_cheaper, no_three_are_cheaper,
+    three_products,
 };
 pub use window::Window;
+
+#[cfg(test)]
+mod tests;

@@ -1,9 +1,11 @@
-ghost use Rattle.std.specs.Prelude.{◌≡◌, ◌⊎◌, ◌↔◌, IsTrue, ℤ, pos, negsuc, ◌+ℤ◌, ◌*ℤ◌, ◌≤ℤ◌, ◌<ℤ◌};
+ghost use Rattle.std.specs.Prelude.{◌≡◌, ◌⊎◌, ◌↔◌, IsTrue, ℤ, pos, negsuc, ◌+ℤ◌, ◌*ℤ◌, ◌≤ℤ◌, ◌<ℤ◌, ◌≤◌, ◌-ℤ◌, unsigned_abs};
+ghost use Rattle.std.specs.Int.{int_min, int_max};
+ghost use Rattle.adpcm_nums.specs.Nums.{floor_of};
 ghost use Rattle.adpcm_nums.specs.Sample.{IsSample};
 ghost use Rattle.window_floor.specs.Ranges.{IsWithin};
 
 use crate::miss::WRAP;
-use adpcm_nums::floor_div;
+use adpcm_nums::{floor_div, multiple};
 
 /// A uniform quantizer: its levels are `step * n` for each whole n from `low` to `high`, in the steps of a decoder's
 /// samples.
@@ -20,6 +22,16 @@ pub struct Quantizer {
     ghost high_is: { IsWithin high (pos 0) (pos 7) },
 }
 
+/// `target / unit`, rounded to the nearest number.
+fn rounded(target: i32, unit: i64) -> i64
+    requires target { IsSample target }
+    requires low { pos 1 ≤ℤ unit }
+    requires high { unit ≤ℤ pos 8192 }
+    ensures { result ≡ floor_of (pos 2 *ℤ target +ℤ unit) (unsigned_abs (pos 2 *ℤ unit)) }
+{
+    floor_div(2 * i64::from(target) + unit, 2 * unit)
+}
+
 impl Quantizer {
     /// The level of a number.
     pub(crate) fn level(self, n: i64) -> i32
@@ -31,6 +43,15 @@ impl Quantizer {
         (self.step * n) as i32
     }
 
+    /// The number of `low..=high` that is nearest to `n`.
+    fn within(self, n: i64) -> i64
+        ensures value { result ≡ int_max (int_min n self.high) self.low }
+        ensures low { self.low ≤ℤ result }
+        ensures high { result ≤ℤ self.high }
+    {
+        n.min(self.high).max(self.low)
+    }
+
     /// The number of the highest level that is not above `x`, or of the lowest level.
     pub(crate) fn under(self, x: i64) -> i64
         ensures low { self.low ≤ℤ result }
@@ -38,7 +59,7 @@ impl Quantizer {
         ensures below { (result ≡ self.low) ⊎ ((self.step *ℤ result) ≤ℤ x) }
         ensures above { (result ≡ self.high) ⊎ (x <ℤ (self.step *ℤ (result +ℤ pos 1))) }
     {
-        floor_div(x, self.step).min(self.high).max(self.low)
+        self.within(floor_div(x, self.step))
     }
 
     /// The number after `n`, or the highest.
@@ -50,6 +71,18 @@ impl Quantizer {
         ensures next { (result ≡ n +ℤ pos 1) ⊎ (n ≡ self.high) }
     {
         (n + 1).min(self.high)
+    }
+
+    /// The number of the level whose multiple by a scale, which is 1 or 2, comes nearest to a target.
+    pub(crate) fn nearest(self, scale: i64, target: i32) -> i64
+        requires scale { (scale ≡ pos 1) ⊎ (scale ≡ pos 2) }
+        requires target { IsSample target }
+        ensures low { self.low ≤ℤ result }
+        ensures high { result ≤ℤ self.high }
+        ensures nearest { (n : ℤ) → self.low ≤ℤ n → n ≤ℤ self.high
+            → unsigned_abs (scale *ℤ (self.step *ℤ result) -ℤ target) ≤ unsigned_abs (scale *ℤ (self.step *ℤ n) -ℤ target) }
+    {
+        self.within(rounded(target, multiple(scale, self.step)))
     }
 
     /// Whether the levels span no more than a wrap.

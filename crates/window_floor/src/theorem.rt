@@ -1,9 +1,13 @@
-ghost use Rattle.std.specs.Prelude.{◌≡◌, ◌≤◌, ◌<◌, ◌+◌, ◌*◌, ℕ, ℤ, pos, ◌*ℤ◌, ◌-ℤ◌, List, get_or};
+ghost use Rattle.std.specs.Prelude.{◌≡◌, ◌≤◌, ◌<◌, ◌+◌, ◌*◌, ◌^◌, ℕ, ℤ, pos, ◌*ℤ◌, ◌-ℤ◌, List, get_or, ◌-◌};
 ghost use Rattle.adpcm_nums.specs.Nums.{square_of};
-ghost use Rattle.window_floor.specs.Row.{Row, IsNormed, brr_row, spu_row};
+ghost use Rattle.window_floor.specs.Row.{Row, IsNormed};
 ghost use Rattle.window_floor.specs.Miss.{miss_of, least_miss};
 ghost use Rattle.window_floor.specs.Floor.{output_cost, window_floor};
 ghost use Rattle.window_floor.specs.Outcome.{IsWrap, IsOutcome};
+ghost use Rattle.window_floor.specs.Windows.{Windows, target_at, floor_from, IsSound};
+ghost use Rattle.window_floor.specs.Following.{Follow};
+ghost use Rattle.adpcm_nums.specs.RangeSum.{sum_range};
+ghost use Rattle.adpcm_nums.specs.Sample.{AreSamples};
 
 /// The inequality that a floor rests on: no three numbers whose sum weighted with d, -a and -b is c have squares that
 /// sum to less than `c² / (d² + a² + b²)`.
@@ -31,8 +35,13 @@ pub fn no_pair_is_cheaper()
         → window_floor w samples first second (pos 0) o x ≤ output_cost w at_x x + output_cost w at_o o }
 {}
 
-/// The norms in the table are the sums of the squares.
-pub fn rows_are_normed()
-    ensures brr { (filter : ℕ) → IsNormed (brr_row filter) }
-    ensures spu { (filter : ℕ) → IsNormed (spu_row filter) }
+/// No outputs that follow one another as a filter says cost less than the floor of a block's windows.
+pub fn floors_hold()
+    ensures { (b : Windows) (from : ℕ) (y : ℕ → ℤ) (targets : List ℤ) → IsSound b → Follow b from y → from ≤ b.places
+        → floor_from b targets from ≤ sum_range (λ p. output_cost b.row (y p) (target_at targets p)) from (b.places - from) }
+{}
+
+/// The floor of a block's windows is at most 2^34 a place.
+pub fn floors_fit()
+    ensures { (b : Windows) (targets : List ℤ) (p : ℕ) → IsSound b → AreSamples targets → floor_from b targets p ≤ b.places * 2 ^ 34 }
 {}

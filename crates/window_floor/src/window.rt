@@ -33,97 +33,22 @@ pub struct Window {
 }
 
 impl Window {
-    ghost use Rattle.window_floor.specs.Row.{brr_row, spu_row};
+    ghost use Rattle.window_floor.specs.Row.{size_of};
     ghost use Rattle.window_floor.specs.Numbers.{row_of};
 
-    /// The window of a filter of the SNES's BRR (fullsnes): outputs count twice, and wrap to 15 bits.
-    pub fn brr(filter: u32) -> Window
-        requires low { 1 ≤ filter }
-        requires high { filter ≤ 3 }
-        ensures { row_of result ≡ brr_row filter }
+    /// How many places in a row the filter ties together.
+    #[tactic(auto, unfolding(crate::specs::Row::size_of))]
+    pub(crate) fn size(self) -> usize
+        ensures value { result ≡ size_of (row_of self) }
+        ensures some { 1 ≤ result }
+        ensures few { result ≤ 3 }
     {
-        match filter {
-            1 => Window {
-                d: 16,
-                ca: 15,
-                cb: 0,
-                bias: 0,
-                errs: 15,
-                scale: 2,
-                norm: 481,
-                wraps: true,
-            },
-            2 => Window {
-                d: 32,
-                ca: 61,
-                cb: -30,
-                bias: 0,
-                errs: 61,
-                scale: 2,
-                norm: 5645,
-                wraps: true,
-            },
-            _ => Window {
-                d: 64,
-                ca: 115,
-                cb: -52,
-                bias: 0,
-                errs: 123,
-                scale: 2,
-                norm: 20025,
-                wraps: true,
-            },
-        }
-    }
-
-    /// The window of a filter of the PlayStation's SPU-ADPCM (PSX-SPX): half of a quotient's divisor is added, so that
-    /// it is rounded to the nearest.
-    pub fn spu(filter: u32) -> Window
-        requires low { 1 ≤ filter }
-        requires high { filter ≤ 4 }
-        ensures { row_of result ≡ spu_row filter }
-    {
-        match filter {
-            1 => Window {
-                d: 64,
-                ca: 60,
-                cb: 0,
-                bias: 32,
-                errs: 63,
-                scale: 1,
-                norm: 7696,
-                wraps: false,
-            },
-            2 => Window {
-                d: 64,
-                ca: 115,
-                cb: -52,
-                bias: 32,
-                errs: 63,
-                scale: 1,
-                norm: 20025,
-                wraps: false,
-            },
-            3 => Window {
-                d: 64,
-                ca: 98,
-                cb: -55,
-                bias: 32,
-                errs: 63,
-                scale: 1,
-                norm: 16725,
-                wraps: false,
-            },
-            _ => Window {
-                d: 64,
-                ca: 122,
-                cb: -60,
-                bias: 32,
-                errs: 63,
-                scale: 1,
-                norm: 22580,
-                wraps: false,
-            },
+        if self.cb != 0 {
+            3
+        } else if self.ca != 0 {
+            2
+        } else {
+            1
         }
     }
 }

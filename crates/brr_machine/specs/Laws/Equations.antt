@@ -1,5 +1,5 @@
 -- Each filter's equation: how far rounding can take a prediction from the exact sum.
-use Rattle.std.proofs.Common.{◌≡◌, ℕ, ◌≤◌, arith}
+use Rattle.std.proofs.Common.{◌≡◌, ℕ, suc, ◌≤◌, arith}
 use Rattle.std.specs.Prelude.{ℤ, pos, negsuc, ◌+ℤ◌, ◌-ℤ◌, ◌*ℤ◌, ◌≤ℤ◌, unsigned_abs}
 use Rattle.std.proofs.lemmas.Int.{ints}
 use Rattle.adpcm_nums.proofs.NearestLaws.{floor-low, floor-high}
@@ -28,9 +28,9 @@ filter-2 o r =
     rounded-by 61 _ _ (omega (arith, ints)) (omega (arith, ints))
 
 -- 64 * prediction = 115 * o - 52 * r - e
-pub filter-3 : (o r : ℤ) → Rounded 123 (pos 64 *ℤ prediction_of 3 o r) (pos 115 *ℤ o -ℤ pos 52 *ℤ r)
+pub filter-3 : (n : ℕ) (o r : ℤ) → Rounded 123 (pos 64 *ℤ prediction_of (suc (suc (suc n))) o r) (pos 115 *ℤ o -ℤ pos 52 *ℤ r)
 unfolding prediction_of
-filter-3 o r =
+filter-3 n o r =
     let low = floor-low (negsuc 12 *ℤ o) 64 (omega arith) in let high = floor-high (negsuc 12 *ℤ o) 64 (omega arith) in
     let low' = floor-low (pos 3 *ℤ r) 16 (omega arith) in let high' = floor-high (pos 3 *ℤ r) 16 (omega arith) in
     rounded-by 123 _ _ (omega (arith, ints)) (omega (arith, ints))

@@ -12,20 +12,20 @@ large-shift : (s c : ℕ) → 13 ≤ s → sample_of s c ≡ sample_of 13 c
 unfolding sample_of
 large-shift s c h = cond-false (nat_lt s 13) _ _ (le-ltb s 13 h)
 
-same-sample : (s t c : ℕ) → min s 13 ≡ min t 13 → sample_of s c ≡ sample_of t c
+pub same-sample : (s t c : ℕ) → min s 13 ≡ min t 13 → sample_of s c ≡ sample_of t c
 same-sample s t c e =
     elim (cases_lt s 13) [
       | inl small ↦ (let same : s ≡ t = omega arith in ap (λ z. sample_of z c) same)
       | inr large ↦ (let both : 13 ≤ t = omega arith in large-shift s c large ∙ sym (large-shift t c both))
     ]
 
-same-filter : (g h : ℕ) → lane_of g ≡ lane_of h → filter_of g ≡ filter_of h
+pub same-filter : (g h : ℕ) → lane_of g ≡ lane_of h → filter_of g ≡ filter_of h
 same-filter g h e = omega arith
 
-same-shift : (g h : ℕ) → lane_of g ≡ lane_of h → min (shift_of g) 13 ≡ min (shift_of h) 13
+pub same-shift : (g h : ℕ) → lane_of g ≡ lane_of h → min (shift_of g) 13 ≡ min (shift_of h) 13
 same-shift g h e = omega arith
 
-same-output : (g h code : ℕ) (o r : ℤ) → lane_of g ≡ lane_of h → output_of g code o r ≡ output_of h code o r
+pub same-output : (g h code : ℕ) (o r : ℤ) → lane_of g ≡ lane_of h → output_of g code o r ≡ output_of h code o r
 unfolding output_of raw_of
 same-output g h code o r e =
     let sample : sample_of (shift_of g) code ≡ sample_of (shift_of h) code = same-sample _ _ code (same-shift g h e) in

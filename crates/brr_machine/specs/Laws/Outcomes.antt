@@ -1,17 +1,17 @@
 -- What an output can be: one of the two that clamping gives, or the filter's result less a wrap.
-use Rattle.std.proofs.Common.{◌≡◌, ℕ, ◌<◌, ◌≤◌, arith, ap, ◌∙◌, refl, inl, inr, ◌⊎◌, true}
-use Rattle.std.specs.Prelude.{ℤ, pos, negsuc, ◌+ℤ◌, ◌-ℤ◌, ◌*ℤ◌, ◌≤ℤ◌, ◌<ℤ◌, get_or}
+use Rattle.std.proofs.Common.{◌≡◌, ℕ, zero, suc, ◌<◌, ◌≤◌, arith, ap, sym, subst, ◌∙◌, refl, inl, inr, Bool, true}
+use Rattle.std.specs.Prelude.{ℤ, pos, negsuc, ◌+ℤ◌, ◌-ℤ◌, ◌*ℤ◌, ◌≤ℤ◌, ◌<ℤ◌, List, get_or}
 use Rattle.std.proofs.lemmas.Int.{ints}
 use Rattle.std.proofs.lemmas.List.FromFn.{get_or-map-range_with_len}
 use Rattle.adpcm_nums.specs.Nums.{clamp16_of, wrap15_of}
-use Rattle.window_floor.specs.Row.{brr_row}
+use Rattle.adpcm_nums.proofs.OrderLaws.{le-or-gt}
+use Rattle.window_floor.specs.Row.{Row}
 use Rattle.window_floor.specs.Outcome.{IsWrap, none, up, down, IsOutcome, clamped_first, clamped_second, filtered}
 use Rattle.brr_machine.specs.Brr.{sample_of, prediction_of, raw_of, output_of, shift_of, filter_of}
+use Rattle.brr_machine.specs.Rows.{brr_row}
 use Rattle.brr_machine.specs.Floors.{samples_under}
+use Rattle.brr_machine.specs.Laws.Samples.{sample_low, sample_high}
 use Rattle.brr_machine.specs.Laws.Equations.{rounds, filter-1, filter-2, filter-3}
-
-le-or-gt : (x y : ℤ) → (x ≤ℤ y) ⊎ (y <ℤ x)
-le-or-gt x y = grind (arith, ints)
 
 clamp-under : (x : ℤ) → x <ℤ negsuc 32767 → clamp16_of x ≡ negsuc 32767
 clamp-under x h = grind (arith, ints)
@@ -57,47 +57,50 @@ pub sample-at : (shift code : ℕ) → code < 16 → get_or (samples_under shift
 unfolding samples_under
 sample-at shift code h = get_or-map-range_with_len (sample_of shift) 0 16 code code (pos 0) h (omega arith)
 
+-- raw is what a row's filter gives on top of a sample, less a rounding
+abbrev pub IsRounded : Row → ℤ → ℤ → ℤ → ℤ → Type 0
+IsRounded w sample o r raw = (e : ℕ) × (e ≤ w.errs) × ((w.d *ℤ raw) ≡ (w.d *ℤ sample +ℤ w.ca *ℤ o +ℤ w.cb *ℤ r +ℤ w.bias -ℤ pos e))
+
 -- a filter's result, in the filter's numbers
-result-1 : (shift code : ℕ) (o r : ℤ) → code < 16 → (raw : ℤ) → raw ≡ sample_of shift code +ℤ prediction_of 1 o r
-    → (e : ℕ) × (e ≤ 15) × ((pos 16 *ℤ raw) ≡ (pos 16 *ℤ get_or (samples_under shift) code (pos 0) +ℤ pos 15 *ℤ o +ℤ pos 0 *ℤ r +ℤ pos 0 -ℤ pos e))
-result-1 shift code o r h raw is = elim (filter-1 o r) [ rounds e l q ↦ (let at = sample-at shift code h in (e, l, omega (arith, ints, is, q, at))) ]
+rounded : (filter : ℕ) (sample o r raw : ℤ) → 1 ≤ filter → raw ≡ sample +ℤ prediction_of filter o r → IsRounded (brr_row filter) sample o r raw
+rounded zero sample o r raw some is = absurd (omega arith)
+rounded (suc zero) sample o r raw some is = elim (filter-1 o r) [ rounds e l q ↦ (e, l, omega (arith, ints, is, q)) ]
+rounded (suc (suc zero)) sample o r raw some is = elim (filter-2 o r) [ rounds e l q ↦ (e, l, omega (arith, ints, is, q)) ]
+rounded (suc (suc (suc n))) sample o r raw some is = elim (filter-3 n o r) [ rounds e l q ↦ (e, l, omega (arith, ints, is, q)) ]
 
-result-2 : (shift code : ℕ) (o r : ℤ) → code < 16 → (raw : ℤ) → raw ≡ sample_of shift code +ℤ prediction_of 2 o r
-    → (e : ℕ) × (e ≤ 61) × ((pos 32 *ℤ raw) ≡ (pos 32 *ℤ get_or (samples_under shift) code (pos 0) +ℤ pos 61 *ℤ o +ℤ negsuc 29 *ℤ r +ℤ pos 0 -ℤ pos e))
-result-2 shift code o r h raw is = elim (filter-2 o r) [ rounds e l q ↦ (let at = sample-at shift code h in (e, l, omega (arith, ints, is, q, at))) ]
+wrapping : (filter : ℕ) → 1 ≤ filter → (brr_row filter).wraps ≡ true
+wrapping zero some = absurd (omega arith)
+wrapping (suc zero) some = refl
+wrapping (suc (suc zero)) some = refl
+wrapping (suc (suc (suc n))) some = refl
 
-result-3 : (shift code : ℕ) (o r : ℤ) → code < 16 → (raw : ℤ) → raw ≡ sample_of shift code +ℤ prediction_of 3 o r
-    → (e : ℕ) × (e ≤ 123) × ((pos 64 *ℤ raw) ≡ (pos 64 *ℤ get_or (samples_under shift) code (pos 0) +ℤ pos 115 *ℤ o +ℤ negsuc 51 *ℤ r +ℤ pos 0 -ℤ pos e))
-result-3 shift code o r h raw is = elim (filter-3 o r) [ rounds e l q ↦ (let at = sample-at shift code h in (e, l, omega (arith, ints, is, q, at))) ]
+-- so an output is an outcome of the row
+outcome : (w : Row) (samples : List ℤ) (code : ℕ) (o r raw y : ℤ) → w.wraps ≡ true → code < 16 → IsRounded w (get_or samples code (pos 0)) o r raw → Ends raw y
+    → IsOutcome w samples (negsuc 0) (pos 0) r o y
+outcome w samples code o r raw y wraps h is (over e) = clamped_first e
+outcome w samples code o r raw y wraps h is (under e) = clamped_second e
+outcome w samples code o r raw y wraps h is (plain k t e) = filtered code is.0 k raw h is.1 (subst (λ (b : Bool). IsWrap b k) (sym wraps) t) is.2 e
 
--- outputs of filters 1 to 3 are outcomes of the filter's row
-outcome-1 : (shift code : ℕ) (o r raw y : ℤ) → code < 16 → raw ≡ sample_of shift code +ℤ prediction_of 1 o r → Ends raw y → IsOutcome (brr_row 1) (samples_under shift) (negsuc 0) (pos 0) r o y
-outcome-1 shift code o r raw y h is (over e) = clamped_first e
-outcome-1 shift code o r raw y h is (under e) = clamped_second e
-outcome-1 shift code o r raw y h is (plain k t e) = let result = result-1 shift code o r h raw is in filtered code result.0 k raw h result.1 t result.2 e
+-- under filters 1 to 3
+pub output-tied : (head code : ℕ) (o r : ℤ) → code < 16 → 1 ≤ filter_of head
+    → IsOutcome (brr_row (filter_of head)) (samples_under (shift_of head)) (negsuc 0) (pos 0) r o (output_of head code o r)
+unfolding output_of raw_of
+output-tied head code o r h some =
+    let sample = ap (λ z. z +ℤ prediction_of (filter_of head) o r) (sym (sample-at (shift_of head) code h)) in
+    outcome (brr_row (filter_of head)) (samples_under (shift_of head)) code o r _ _ (wrapping (filter_of head) some) h (rounded (filter_of head) _ o r _ some sample) (ends (raw_of head code o r))
 
-outcome-2 : (shift code : ℕ) (o r raw y : ℤ) → code < 16 → raw ≡ sample_of shift code +ℤ prediction_of 2 o r → Ends raw y → IsOutcome (brr_row 2) (samples_under shift) (negsuc 0) (pos 0) r o y
-outcome-2 shift code o r raw y h is (over e) = clamped_first e
-outcome-2 shift code o r raw y h is (under e) = clamped_second e
-outcome-2 shift code o r raw y h is (plain k t e) = let result = result-2 shift code o r h raw is in filtered code result.0 k raw h result.1 t result.2 e
+-- under filter 0 the outputs before do not count
+no-prediction : (filter : ℕ) (o r : ℤ) → filter ≡ 0 → prediction_of filter o r ≡ pos 0
+unfolding prediction_of
+no-prediction filter o r e = rw e refl
 
-outcome-3 : (shift code : ℕ) (o r raw y : ℤ) → code < 16 → raw ≡ sample_of shift code +ℤ prediction_of 3 o r → Ends raw y → IsOutcome (brr_row 3) (samples_under shift) (negsuc 0) (pos 0) r o y
-outcome-3 shift code o r raw y h is (over e) = clamped_first e
-outcome-3 shift code o r raw y h is (under e) = clamped_second e
-outcome-3 shift code o r raw y h is (plain k t e) = let result = result-3 shift code o r h raw is in filtered code result.0 k raw h result.1 t result.2 e
+-- a number of 15 bits is neither clamped nor wrapped
+pub no-change : (x : ℤ) → negsuc 16383 ≤ℤ x → x ≤ℤ pos 16383 → wrap15_of (clamp16_of x) ≡ x
+no-change x h k = ap wrap15_of (clamp-in x (omega (arith, ints)) (omega (arith, ints))) ∙ wrap-in x h k ∙ omega (arith, ints)
 
-pub raw-is : (head code filter : ℕ) (o r : ℤ) → filter_of head ≡ filter → raw_of head code o r ≡ sample_of (shift_of head) code +ℤ prediction_of filter o r
-unfolding raw_of
-raw-is head code filter o r h = ap (λ f. sample_of (shift_of head) code +ℤ prediction_of f o r) h
-
-pub output-1 : (head code : ℕ) (o r : ℤ) → code < 16 → filter_of head ≡ 1 → IsOutcome (brr_row 1) (samples_under (shift_of head)) (negsuc 0) (pos 0) r o (output_of head code o r)
-unfolding output_of
-output-1 head code o r h f = outcome-1 (shift_of head) code o r _ _ h (raw-is head code 1 o r f) (ends (raw_of head code o r))
-
-pub output-2 : (head code : ℕ) (o r : ℤ) → code < 16 → filter_of head ≡ 2 → IsOutcome (brr_row 2) (samples_under (shift_of head)) (negsuc 0) (pos 0) r o (output_of head code o r)
-unfolding output_of
-output-2 head code o r h f = outcome-2 (shift_of head) code o r _ _ h (raw-is head code 2 o r f) (ends (raw_of head code o r))
-
-pub output-3 : (head code : ℕ) (o r : ℤ) → code < 16 → filter_of head ≡ 3 → IsOutcome (brr_row 3) (samples_under (shift_of head)) (negsuc 0) (pos 0) r o (output_of head code o r)
-unfolding output_of
-output-3 head code o r h f = outcome-3 (shift_of head) code o r _ _ h (raw-is head code 3 o r f) (ends (raw_of head code o r))
+-- so an output is a sample
+pub output-free : (head code : ℕ) (o r : ℤ) → code < 16 → filter_of head ≡ 0 → output_of head code o r ≡ sample_of (shift_of head) code
+unfolding output_of raw_of
+output-free head code o r h f =
+    let raw : sample_of (shift_of head) code +ℤ prediction_of (filter_of head) o r ≡ sample_of (shift_of head) code = omega (arith, ints, no-prediction (filter_of head) o r f) in
+    ap (λ x. wrap15_of (clamp16_of x)) raw ∙ no-change (sample_of (shift_of head) code) (sample_low (shift_of head) code h) (sample_high (shift_of head) code h)

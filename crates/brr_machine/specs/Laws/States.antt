@@ -1,16 +1,10 @@
 -- The range of states.
-use Rattle.std.proofs.Common.{◌≡◌, true, arith}
-use Rattle.std.specs.Prelude.{ℤ, pos, negsuc, ◌≤ℤ◌, int_le, IsTrue}
-use Rattle.std.proofs.lemmas.Int.{ints}
+use Rattle.std.proofs.Common.{◌≡◌, true}
+use Rattle.std.specs.Prelude.{ℤ, pos, negsuc, ◌≤ℤ◌, IsTrue}
 use Rattle.std.proofs.lemmas.Bool.{and_parts, and_from}
+use Rattle.adpcm_nums.proofs.IntTests.{from-test, to-test}
 use Rattle.machine_core.specs.declared.state.State.{State}
 use Rattle.brr_machine.specs.Brr.{is_output, is_brr_state}
-
-from-test : (x y : ℤ) → int_le x y ≡ true → x ≤ℤ y
-from-test x y h = grind (arith, ints)
-
-to-test : (x y : ℤ) → x ≤ℤ y → int_le x y ≡ true
-to-test x y h = grind (arith, ints)
 
 -- the bounds of an output
 pub record IsOutput (y : ℤ) : Type 0 where

@@ -1,5 +1,5 @@
-use Rattle.brr_machine.specs.Laws.FloorSizes.{floor-fits}
+use Rattle.brr_machine.specs.Laws.FloorTruth.{brr-floor-fits}
 use Rattle.brr_machine.proofs.floors.floors_fit.Goals as goal
 
 pub returns : goal.returns
-returns c = floor-fits
+returns c = brr-floor-fits

@@ -1,5 +1,5 @@
-use Rattle.brr_machine.specs.Laws.FloorTruth.{floor-below}
+use Rattle.brr_machine.specs.Laws.FloorTruth.{brr-floor-below}
 use Rattle.brr_machine.proofs.floors.floors_hold.Goals as goal
 
 pub returns : goal.returns
-returns c = floor-below
+returns c = brr-floor-below

@@ -1,8 +1,8 @@
 use Rattle.std.proofs.Common.{◌∙◌, sym}
 use Rattle.machine_core.specs.Floors.{allowed_floor, top}
-use Rattle.machine_core.proofs.LeastValue.{least-none}
+use Rattle.adpcm_nums.proofs.LeastValueLaws.{least-none}
 use Rattle.brr_machine.specs.BrrRules.{brr_rules}
-use Rattle.brr_machine.proofs.LeastFloor.{least-allowed, least-forbidden}
+use Rattle.machine_core.proofs.LeastFloor.{least-allowed, least-forbidden}
 use Rattle.brr_machine.proofs.least.least_floor.Goals as goal
 use Rattle.brr_machine.proofs.least.least_floor.Goals.{then-allows_head, else-allows_head}
 
@@ -12,7 +12,7 @@ loop-head-init c = least-none (allowed_floor brr_rules c.args.rule c.args.target
 pub loop-head-preserved : goal.loop-head-preserved
 loop-head-preserved c = elim c.if-allows_head.branch [
   | then-allows_head w ↦
-      w.least-is ∙ w.min-least.ensures ∙ least-allowed c.args.rule c.args.targets.now c.loop-head.head c.loop-head.least w.floor_below.result (sym c.allows_head.ensures ∙ w.if-allows_head.true) c.loop-head.invariant w.floor_below.ensures
+      w.least-is ∙ w.min-least.ensures ∙ least-allowed brr_rules c.args.rule c.args.targets.now c.loop-head.head c.loop-head.least w.floor_below.result (sym c.allows_head.ensures ∙ w.if-allows_head.true) c.loop-head.invariant w.floor_below.ensures
   | else-allows_head w ↦
-      w.least-is ∙ least-forbidden c.args.rule c.args.targets.now c.loop-head.head c.loop-head.least (sym c.allows_head.ensures ∙ w.if-allows_head.false) c.loop-head.invariant
+      w.least-is ∙ least-forbidden brr_rules c.args.rule c.args.targets.now c.loop-head.head c.loop-head.least (sym c.allows_head.ensures ∙ w.if-allows_head.false) c.loop-head.invariant
 ]

@@ -1,5 +1,6 @@
 use Rattle.std.proofs.Common.{◌≡◌}
-use Rattle.machine_core.specs.Floors.{least, allowed_floor, top}
+use Rattle.adpcm_nums.specs.LeastValue.{least}
+use Rattle.machine_core.specs.Floors.{allowed_floor, top}
 use Rattle.brr_machine.specs.BrrRules.{brr_rules}
 use Rattle.brr_machine.proofs.least.least_floor.Given as goal
 

@@ -1,6 +1,6 @@
 use Rattle.std.proofs.Common.{arith, ◌-◌}
 use Rattle.std.proofs.lemmas.Int.{ints}
-use Rattle.brr_machine.proofs.Sizes.{power}
+use Rattle.brr_machine.specs.Laws.Samples.{power}
 use Rattle.brr_machine.proofs.levels.level_step.Goals as goal
 
 pub returns-clause-high : goal.returns-clause-high

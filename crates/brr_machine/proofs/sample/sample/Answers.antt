@@ -1,6 +1,6 @@
 use Rattle.std.proofs.Common.{arith}
 use Rattle.std.proofs.lemmas.Int.{ints}
-use Rattle.brr_machine.proofs.Sizes.{sample_low}
+use Rattle.brr_machine.specs.Laws.Samples.{sample_low}
 use Rattle.brr_machine.proofs.sample.sample.Goals as goal
 
 pub returns-clause-low : goal.returns-clause-low

@@ -18,7 +18,7 @@ returns-clause-value c =
     let first = kept_value ends 0 c.requires.ends (omega arith) in let second = kept_value ends 1 c.requires.ends (omega arith) in
     let x : to_z w32 (of_z w32 c.args.target) ≡ c.args.target = omega (arith, ints) in
     clamped-is w c.args.miss (get_or ends 0 (pos 0)) (get_or ends 1 (pos 0)) c.args.target c.shared.result c.cost.result c.cost-2.result c.min-clamped.result c.min.result
-    c.shared.ensures (cost-is w _ _ _ _ c.cost.result first x c.cost.ensures) (cost-is w _ _ _ _ c.cost-2.result second x c.cost-2.ensures) c.min-clamped.ensures c.min.ensures
+    c.shared.ensures (cost-is w _ _ _ _ c.cost.result first x c.cost.ensures.value) (cost-is w _ _ _ _ c.cost-2.result second x c.cost-2.ensures.value) c.min-clamped.ensures c.min.ensures
 
 pub returns-clause-small : goal.returns-clause-small
 returns-clause-small c =

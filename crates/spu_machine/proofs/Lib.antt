@@ -1,0 +1,7 @@
+pub mod Pairs
+pub mod Reading
+pub mod Runs
+pub mod Products
+pub mod LevelLaws
+pub mod NearCodes
+pub mod Predictions

@@ -1,0 +1,84 @@
+ghost use Rattle.spu_machine.specs.SpuRules.{spu_rules};
+ghost use Rattle.spu_machine.specs.Laws.{spu_is_machine};
+
+use crate::filter::predict;
+use crate::floors::fill_floors;
+use crate::least::{allows_head, least_floor};
+use crate::nearest::{nearest_code, output_cost};
+use crate::sample::acting_shift;
+use crate::step::spu_output;
+use crate::taken::taken_from;
+use machine_core::{Bx, HeadRule, Kind, Machine, State, Taken};
+
+/// The decoder of the PlayStation's sound unit (PSX-SPX, SPU ADPCM samples).
+///
+/// A head is the shift, plus sixteen times the filter. A symbol is a 4-bit code. The states are the last two outputs, of 16 bits.
+#[derive(Clone, Copy, Debug, PartialEq, Eq)]
+pub struct Spu;
+
+impl Machine for Spu {
+    ghost rules = { λ _. spu_rules };
+
+    fn kind(&self) -> Kind {
+        Kind::Spu
+    }
+
+    fn block_samples(&self) -> u32 {
+        28
+    }
+
+    fn heads(&self) -> u32 {
+        80
+    }
+
+    fn symbols(&self, _pos: u32) -> u32 {
+        16
+    }
+
+    fn allows(&self, head: u32, rule: HeadRule) -> bool {
+        allows_head(head, rule)
+    }
+
+    // Shifts 13 to 15 act as 9.
+    fn lane(&self, head: u32, _pos: u32) -> u32 {
+        acting_shift(head % 16) + 16 * (head / 16)
+    }
+
+    #[tactic(auto, unfolding(crate::specs::Spu::spu_step))]
+    fn step(&self, head: u32, _pos: u32, sym: u32, from: State) -> State {
+        State {
+            a: spu_output(head, sym, from),
+            b: from.a,
+        }
+    }
+
+    fn cost(&self, at: State, target: i32) -> u64 {
+        output_cost(at.a, target)
+    }
+
+    fn nearest(&self, head: u32, _pos: u32, from: State, target: i32) -> u32 {
+        nearest_code(head % 16, predict(head / 16, from.a, from.b), target)
+    }
+
+    fn take_nearest(&self, head: u32, _pos: u32, from: State, target: i32) -> Taken {
+        taken_from(head, from, target)
+    }
+
+    fn block_floor(&self, rule: HeadRule, targets: &[i32]) -> u64 {
+        least_floor(rule, targets)
+    }
+
+    fn floor_len(&self) -> u32 {
+        29
+    }
+
+    fn fill_floor(&self, head: u32, targets: &[i32], table: &mut [u64]) {
+        fill_floors(head, targets, table);
+    }
+
+    fn floor_at(&self, _head: u32, pos: u32, _from: Bx, table: &[u64]) -> u64 {
+        table[pos as usize]
+    }
+
+    ghost lawful = { λ _. spu_is_machine };
+}

@@ -1,0 +1,3 @@
+-- Definitions of this crate.
+pub mod Spelling
+pub mod Reading

@@ -1,5 +1,5 @@
 -- The flags of blocks, as they are written.
-use Rattle.std.specs.Prelude.{ℕ, suc, ◌+◌, ◌/◌, ◌%◌, ◌==◌, if◌then◌else◌, Bool, false, is_some, Option, Some, None}
+use Rattle.std.specs.Prelude.{ℕ, suc, ◌+◌, ◌/◌, ◌%◌, ◌==◌, if◌then◌else◌, Bool, true, false, is_some, Option, Some, None}
 use Rattle.machine_core.specs.declared.state.Kind.{Kind}
 use Rattle.machine_core.specs.declared.state.Kind.TheVariants.{Brr, Spu, Ima}
 
@@ -17,6 +17,24 @@ abbrev pub flags_of_block : Kind → ℕ → ℕ → Option ℕ → ℕ
 flags_of_block Brr block blocks loop_block = end_flags block blocks loop_block
 flags_of_block Spu block blocks loop_block = end_flags block blocks loop_block + start_flag block loop_block
 flags_of_block Ima block blocks loop_block = 0
+
+-- the flags that a block may have are the numbers below this one
+abbrev pub flag_bound : Kind → ℕ
+flag_bound Brr = 4
+flag_bound Spu = 8
+flag_bound Ima = 1
+
+-- whether blocks tell where a sample ends
+abbrev pub tells_end : Kind → Bool
+tells_end Brr = true
+tells_end Spu = true
+tells_end Ima = false
+
+-- whether they tell where its loop begins
+abbrev pub tells_start : Kind → Bool
+tells_start Brr = false
+tells_start Spu = true
+tells_start Ima = false
 
 -- bit 0 of a byte ends the sample, bit 1 repeats it
 abbrev pub has_end : ℕ → Bool

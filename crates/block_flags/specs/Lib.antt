@@ -1,2 +1,3 @@
 pub mod Flags
+pub mod Last
 pub mod Split

@@ -72,3 +72,36 @@ fn reads_the_flags(rt: HostRuntime) {
         }
     );
 }
+
+#[test]
+fn splits_at_the_last_start(rt: HostRuntime) {
+    let mut bytes = [0u8; 64];
+    bytes[33] = 0x03;
+    assert_eq!(rt;
+        split_blocks(Kind::Spu, &bytes),
+        Err(SplitFault::NoLoopStart { at: 32 })
+    );
+    bytes[1] = 0x04;
+    bytes[17] = 0xFC;
+    let split = Split {
+        blocks: 3,
+        looped: true,
+        loop_block: Some(1),
+        trailing: 16,
+    };
+    assert_eq!(rt; split_blocks(Kind::Spu, &bytes), Ok(split));
+    bytes[33] = 0x07;
+    let split = Split {
+        loop_block: Some(2),
+        ..split
+    };
+    assert_eq!(rt; split_blocks(Kind::Spu, &bytes), Ok(split));
+    bytes[17] = 0x01;
+    let split = Split {
+        blocks: 2,
+        looped: false,
+        loop_block: None,
+        trailing: 32,
+    };
+    assert_eq!(rt; split_blocks(Kind::Spu, &bytes), Ok(split));
+}

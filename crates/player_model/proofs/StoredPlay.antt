@@ -1,86 +1,54 @@
--- The player of a stored legal list goes round its outputs.
-use Rattle.std.proofs.Common.{◌≡◌, ℕ, ◌+◌, ◌-◌, ◌*◌, ◌%◌, ◌<◌, ◌≤◌, inl, inr, Bool, true, false, nat_lt, if◌then◌else◌, List, ℤ, pos, sym, ap, ◌∙◌, arith}
-use Rattle.std.specs.Prelude.{nat_le, Option, Some, None}
-use Rattle.std.proofs.Math.Nat.{mod-lt}
-use Rattle.std.proofs.lemmas.Bool.{lt-leb, le-leb}
+-- The player of a stored list goes round its outputs.
+use Rattle.std.proofs.Common.{◌≡◌, ℕ, ◌*◌, ◌<◌, inl, inr, Bool, if◌then◌else◌, List, ℤ, pos, sym, ap, ◌∙◌, arith}
+use Rattle.std.specs.Prelude.{Option, Some, None}
+use Rattle.std.proofs.lemmas.Bool.{cases_lt, lt-ltb, le-ltb}
 use Rattle.std.proofs.lemmas.List.{get_or_past}
 use Rattle.adpcm_nums.specs.Round.{round_place, round_of}
+use Rattle.adpcm_nums.proofs.RoundLaws.{round_place-le}
 use Rattle.machine_core.specs.declared.state.State.{State}
-use Rattle.machine_core.specs.Blocks.{Blocks, IsLegal, output_at}
-use Rattle.brr_machine.specs.Brr.{brr}
-use Rattle.brr_machine.specs.Laws.Forgetting.{brr-forgets}
-use Rattle.player_model.specs.Player.{brr_format, play}
-use Rattle.player_model.specs.Looped.{IsStoredAt, AreOutputs, points_of, loop_points, round_output}
-use Rattle.player_model.proofs.LoopIndex.{round_index, is-below, not-below, below-or-not, index-first, index-later}
-use Rattle.player_model.proofs.Passes.{round-holds, once-holds}
-use Rattle.player_model.proofs.StoredKept.{stored-keeps, first-forgets, loop-forgets}
-
-place-first : (blocks l i : ℕ) → i < 16 * blocks → round_place (points_of blocks l) i ≡ i
-place-first blocks l i h =
-    let early : nat_le i (16 * blocks - 1) ≡ true = le-leb i (16 * blocks - 1) (omega arith) in
-    ap (λ (t : Bool). if t then i else 16 * l + (i - 16 * l) % (16 * blocks - 1 - 16 * l + 1)) early
-
-place-later : (blocks l i : ℕ) → l < blocks → 16 * blocks ≤ i → round_place (points_of blocks l) i ≡ 16 * l + (i - 16 * l) % (16 * blocks - 16 * l)
-place-later blocks l i within h =
-    let late : nat_le i (16 * blocks - 1) ≡ false = lt-leb i (16 * blocks - 1) (omega arith) in
-    let len : 16 * blocks - 1 - 16 * l + 1 ≡ 16 * blocks - 16 * l = omega arith in
-    ap (λ (t : Bool). if t then i else 16 * l + (i - 16 * l) % (16 * blocks - 1 - 16 * l + 1)) late
-    ∙ ap (λ (n : ℕ). 16 * l + (i - 16 * l) % n) len
-
-turned : (a b : ℕ) → a * b ≡ b * a
-turned a b = omega arith
-
-index-is : (blocks l i : ℕ) → l < blocks → round_index (16 * l) (16 * blocks) i ≡ round_place (points_of blocks l) i
-index-is blocks l i within =
-    elim (below-or-not i (16 * blocks)) [
-      | inl first ↦ index-first (16 * l) (16 * blocks) i first ∙ sym (place-first blocks l i first)
-      | inr later ↦ index-later (16 * l) (16 * blocks) i later ∙ sym (place-later blocks l i within later)
-    ]
-
--- the place is one of the list
-place-within : (blocks l i : ℕ) → l < blocks → round_place (points_of blocks l) i < 16 * blocks
-place-within blocks l i within =
-    elim (below-or-not i (16 * blocks)) [
-      | inl first ↦ omega (arith, first, place-first blocks l i first)
-      | inr later ↦ (let room : 0 < 16 * blocks - 16 * l = omega arith in
-          let rest : (i - 16 * l) % (16 * blocks - 16 * l) < 16 * blocks - 16 * l = mod-lt (i - 16 * l) room in
-          omega (arith, rest, place-later blocks l i within later))
-    ]
+use Rattle.machine_core.specs.Decoder.{Decoder}
+use Rattle.machine_core.specs.Blocks.{Blocks, output_at}
+use Rattle.player_model.specs.Format.{Format}
+use Rattle.player_model.specs.Player.{play}
+use Rattle.player_model.specs.Track.{Track}
+use Rattle.player_model.specs.Looped.{BeginsAnew, AreOutputs, points_of, loop_points, round_output}
+use Rattle.player_model.proofs.Passes.{points-ordered, some-samples, round-holds, once-holds}
+use Rattle.player_model.proofs.StoredTracks.{IsStoredList, stored-keeps, stored-track, repeats-stored, register-stored}
 
 -- what is played is the list's outputs, and then its loop for ever or silence
-pub stored-play : (memory : List ℕ) (begin again : ℕ) (list : Blocks) (blocks : ℕ) (loop_block : Option ℕ) (history from : State) (i : ℕ)
-    → IsLegal brr blocks loop_block list → IsStoredAt memory begin again list blocks loop_block
-    → play brr brr_format memory begin again history i ≡ round_output list from blocks loop_block i
-stored-play memory begin again list blocks None history from i legal stored =
-    let keeps = stored-keeps memory begin again list blocks None legal stored in
-    once-holds brr brr_format memory begin again blocks list history from i brr-forgets keeps stored.some (first-forgets list blocks None legal stored.some)
-    ∙ ap (λ (n : ℕ). if nat_lt i n then output_at brr list from i else pos 0) (turned blocks 16)
-stored-play memory begin again list blocks (Some l) history from i legal stored =
-    let keeps = stored-keeps memory begin again list blocks (Some l) legal stored in
-    let there : again ≡ begin + 9 * l = stored.again_is in
-    let same : again ≡ begin + l * 9 = omega (arith, there) in
-    ap (λ (n : ℕ). play brr brr_format memory begin n history i) same
-    ∙ round-holds brr brr_format memory begin blocks l list history from i brr-forgets keeps stored.loop_within
-    (first-forgets list blocks (Some l) legal stored.some) (loop-forgets list blocks l legal stored.loop_within)
-    ∙ ap (output_at brr list from) (ap (λ (m : ℕ). round_index m (blocks * 16) i) (turned l 16) ∙ ap (λ (n : ℕ). round_index (16 * l) n i) (turned blocks 16)
-    ∙ index-is blocks l i stored.loop_within)
+pub stored-play : (d : Decoder) (f : Format) (t : Track) (list : Blocks) (loop_block : Option ℕ) (history from : State) (i : ℕ)
+    → IsStoredList d f t list loop_block → BeginsAnew d list loop_block
+    → play d f t.memory t.start t.again history i ≡ round_output d list from t.blocks loop_block i
+stored-play d f t list None history from i s anew =
+    once-holds d f t list history from i s.laws.forgets (stored-track d f t list None s) (stored-keeps d f t list None s.laws s.range s.stored)
+    (repeats-stored d f t list None s) anew.first
+stored-play d f t list (Some l) history from i s anew =
+    round-holds d f t l list history from i s.laws.forgets (stored-track d f t list (Some l) s) (stored-keeps d f t list (Some l) s.laws s.range s.stored)
+    (repeats-stored d f t list (Some l) s) (register-stored d f t list l s) s.stored.loop_within anew.first anew.looped
 
-listed : (list : Blocks) (from : State) (blocks : ℕ) (loop_block : Option ℕ) (outputs : List ℤ) (i : ℕ) (memory : List ℕ) (begin again : ℕ)
-    → IsStoredAt memory begin again list blocks loop_block → AreOutputs list from blocks outputs
-    → round_output list from blocks loop_block i ≡ round_of outputs (loop_points blocks loop_block) i
-listed list from blocks None outputs i memory begin again stored are =
-    elim (below-or-not i (16 * blocks)) [
-      | inl first ↦ ap (λ (t : Bool). if t then output_at brr list from i else pos 0) (is-below i (16 * blocks) first) ∙ sym (are.each i first)
-      | inr later ↦ ap (λ (t : Bool). if t then output_at brr list from i else pos 0) (not-below i (16 * blocks) later)
+-- no place of the loop is behind the list's end
+place-within : (d : Decoder) (blocks l i : ℕ) → 0 < d.samples → l < blocks → round_place (points_of d blocks l) i < blocks * d.samples
+place-within d blocks l i some within =
+    let ordered = points-ordered d blocks l some within in
+    let low = round_place-le (points_of d blocks l) i ordered in
+    let more = some-samples d blocks some (omega arith) in
+    omega (arith, low, more)
+
+listed : (d : Decoder) (f : Format) (t : Track) (list : Blocks) (loop_block : Option ℕ) (from : State) (outputs : List ℤ) (i : ℕ)
+    → IsStoredList d f t list loop_block → AreOutputs d list from t.blocks outputs
+    → round_output d list from t.blocks loop_block i ≡ round_of outputs (loop_points d t.blocks loop_block) i
+listed d f t list None from outputs i s are =
+    elim (cases_lt i (t.blocks * d.samples)) [
+      | inl first ↦ ap (λ (b : Bool). if b then output_at d list from i else pos 0) (lt-ltb i (t.blocks * d.samples) first) ∙ sym (are.each i first)
+      | inr later ↦ ap (λ (b : Bool). if b then output_at d list from i else pos 0) (le-ltb i (t.blocks * d.samples) later)
           ∙ sym (get_or_past outputs i (pos 0) (omega (arith, are.count, later)))
     ]
-listed list from blocks (Some l) outputs i memory begin again stored are =
-    sym (are.each (round_place (points_of blocks l) i) (place-within blocks l i stored.loop_within))
+listed d f t list (Some l) from outputs i s are =
+    sym (are.each (round_place (points_of d t.blocks l) i) (place-within d t.blocks l i s.laws.forgets.some_samples s.stored.loop_within))
 
 -- the same of outputs that are given as a list
-pub stored-listed : (memory : List ℕ) (begin again : ℕ) (list : Blocks) (blocks : ℕ) (loop_block : Option ℕ) (history from : State) (outputs : List ℤ) (i : ℕ)
-    → IsLegal brr blocks loop_block list → IsStoredAt memory begin again list blocks loop_block → AreOutputs list from blocks outputs
-    → play brr brr_format memory begin again history i ≡ round_of outputs (loop_points blocks loop_block) i
-stored-listed memory begin again list blocks loop_block history from outputs i legal stored are =
-    stored-play memory begin again list blocks loop_block history from i legal stored
-    ∙ listed list from blocks loop_block outputs i memory begin again stored are
+pub stored-listed : (d : Decoder) (f : Format) (t : Track) (list : Blocks) (loop_block : Option ℕ) (history from : State) (outputs : List ℤ) (i : ℕ)
+    → IsStoredList d f t list loop_block → BeginsAnew d list loop_block → AreOutputs d list from t.blocks outputs
+    → play d f t.memory t.start t.again history i ≡ round_of outputs (loop_points d t.blocks loop_block) i
+stored-listed d f t list loop_block history from outputs i s anew are =
+    stored-play d f t list loop_block history from i s anew ∙ listed d f t list loop_block from outputs i s are

@@ -1,5 +1,13 @@
+pub mod Format
+pub mod FormatLaws
+pub mod BrrFormat
+pub mod BrrLaws
+pub mod SpuFormat
+pub mod SpuLaws
 pub mod Player
 pub mod Track
+pub mod BrrTrack
+pub mod SpuTrack
 pub mod Stored
-pub mod Sound
 pub mod Looped
+pub mod Sound

@@ -1,3 +1,4 @@
+use block_flags::SplitFault;
 use thiserror::Error;
 
 /// Why stored bytes are no track.
@@ -14,5 +15,19 @@ pub enum TrackFault {
     BadAgain {
         /// The address at which the player would go on.
         at: u64,
+    },
+    /// The bytes do not split at an end block.
+    #[error("{fault}")]
+    Split {
+        /// Why they do not.
+        fault: SplitFault,
+    },
+    /// A block up to the end has a filter that the decoder has not.
+    #[error("block {block} has filter {filter}")]
+    BadFilter {
+        /// The number of the first such block.
+        block: u32,
+        /// Its filter, from 5 to 7.
+        filter: u8,
     },
 }

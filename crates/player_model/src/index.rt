@@ -1,17 +1,18 @@
 ghost use Rattle.std.specs.Prelude.{◌≡◌, ◌<◌};
-ghost use Rattle.brr_machine.specs.Brr.{brr};
-ghost use Rattle.player_model.specs.Player.{brr_format};
-ghost use Rattle.player_model.specs.Sound.{IsSound, position_after, track_position, heard};
+ghost use Rattle.player_model.specs.Player.{position_after};
+ghost use Rattle.player_model.specs.Sound.{IsSound, track_position, heard};
 
+use crate::format::StoredFormat;
 use crate::position::Position;
+use crate::span::samples_of;
 use crate::step::{first_of, follow, step_on};
-use crate::track::BrrTrack;
+use crate::track::StoredTrack;
 
 /// The position after so many samples, one by one.
-fn walk(track: &BrrTrack<'_>, from: Position, count: u64) -> Position
-    requires inside { IsSound track.now from }
-    ensures value { result ≡ position_after brr brr_format track.now.memory track.now.again from count }
-    ensures inside { IsSound track.now result }
+fn walk<S: StoredFormat>(track: &StoredTrack<'_, S>, from: Position, count: u64) -> Position
+    requires inside { IsSound S.decoder S.format track.now from }
+    ensures value { result ≡ position_after S.decoder S.format track.now.memory from count }
+    ensures inside { IsSound S.decoder S.format track.now result }
 {
     let mut at = from;
     for _ in 0..count {
@@ -22,10 +23,10 @@ fn walk(track: &BrrTrack<'_>, from: Position, count: u64) -> Position
 
 /// The samples of a playing: of the blocks from the loop block to the end block, and of all blocks where there is no
 /// loop.
-fn playing(track: &BrrTrack<'_>) -> u64
+fn playing<S: StoredFormat>(track: &StoredTrack<'_, S>) -> u64
     ensures { 0 < result }
 {
-    16 * u64::from(track.blocks() - track.loop_block().unwrap_or(0))
+    samples_of::<S>(track.blocks() - track.loop_block().unwrap_or(0))
 }
 
 /// The position so many samples after a position at which a playing begins, playing after playing.
@@ -33,10 +34,10 @@ fn playing(track: &BrrTrack<'_>) -> u64
 /// `known` is where an earlier playing began, `gone` samples before, and moves up to the newest playing each time that
 /// their distance has doubled. Once a playing begins as the known one did, all that comes goes round from there, and
 /// whole rounds are left out.
-fn walk_round(track: &BrrTrack<'_>, from: Position, count: u64) -> Position
-    requires inside { IsSound track.now from }
-    ensures value { result ≡ position_after brr brr_format track.now.memory track.now.again from count }
-    ensures inside { IsSound track.now result }
+fn walk_round<S: StoredFormat>(track: &StoredTrack<'_, S>, from: Position, count: u64) -> Position
+    requires inside { IsSound S.decoder S.format track.now from }
+    ensures value { result ≡ position_after S.decoder S.format track.now.memory from count }
+    ensures inside { IsSound S.decoder S.format track.now result }
 {
     let playing = playing(track);
     let mut at = from;
@@ -61,11 +62,11 @@ fn walk_round(track: &BrrTrack<'_>, from: Position, count: u64) -> Position
 }
 
 /// The position before output `i`: the first pass sample by sample, and then playing after playing.
-fn position_of(track: &BrrTrack<'_>, i: u64) -> Position
-    ensures value { result ≡ track_position track.now i }
-    ensures inside { IsSound track.now result }
+fn position_of<S: StoredFormat>(track: &StoredTrack<'_, S>, i: u64) -> Position
+    ensures value { result ≡ track_position S.decoder S.format track.now i }
+    ensures inside { IsSound S.decoder S.format track.now result }
 {
-    let whole = 16 * u64::from(track.blocks());
+    let whole = samples_of::<S>(track.blocks());
     let first = first_of(track);
     if i < whole {
         return walk(track, first, i);
@@ -78,8 +79,8 @@ fn position_of(track: &BrrTrack<'_>, i: u64) -> Position
 ///
 /// The time grows with the samples of the first pass, and with those of the playings of the loop until one begins with
 /// the history with which an earlier one began. From there on it does not grow with `i`.
-pub fn play_brr_at(track: &BrrTrack<'_>, i: u64) -> i32
-    ensures { result ≡ heard track.now i }
+pub(crate) fn play_at<S: StoredFormat>(track: &StoredTrack<'_, S>, i: u64) -> i32
+    ensures { result ≡ heard S.decoder S.format track.now i }
 {
     let at = position_of(track, i);
     if at.muted {

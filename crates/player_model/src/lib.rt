@@ -1,20 +1,31 @@
 //! The written player: tracks in stored bytes, and their outputs by index and one after another.
 #![tactic(auto)]
 
+mod brr;
+mod brr_walk;
 mod fault;
+mod format;
 mod index;
 mod laws;
 mod player;
 mod position;
+mod span;
+mod spu;
+mod spu_walk;
 mod step;
 mod track;
 
+pub use brr_walk::{BrrPlayer, BrrTrack, brr_track, play_brr_at};
 pub use fault::TrackFault;
-pub use index::play_brr_at;
-pub use laws::{stored_is_track, stored_plays_round};
-pub use player::BrrPlayer;
+pub use format::StoredFormat;
+pub use laws::{
+    legal_begins_anew, stored_is_brr_track, stored_is_spu_track, stored_is_track,
+    stored_plays_round,
+};
+pub use player::StoredPlayer;
 pub use position::Position;
-pub use track::{BrrTrack, brr_track};
+pub use spu_walk::{SpuPlayer, SpuTrack, play_spu_at, spu_track};
+pub use track::StoredTrack;
 
 #[cfg(test)]
 mod tests;

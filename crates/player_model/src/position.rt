@@ -7,6 +7,8 @@ pub struct Position {
     pub address: u32,
     /// The place in the block, from 0.
     pub place: u32,
+    /// The repeat register: the address at which it goes on after an end block that repeats.
+    pub again: u32,
     /// The last two outputs.
     pub history: State,
     /// Whether all that comes is silent.

@@ -1,4 +1,5 @@
 use super::*;
+use block_flags::SplitFault;
 use std::test::Fail;
 
 /// Two blocks, the second of which repeats: codes 1 under shift 5, then zeros under filter 1.
@@ -62,5 +63,54 @@ fn tells_why_there_is_no_track(rt: HostRuntime) {
     assert_eq!(rt;
         brr_track(&FADING, 0, 8).err(),
         Some(TrackFault::BadAgain { at: 8 })
+    );
+}
+
+/// Two blocks of SPU-ADPCM, the second of which repeats: codes 1 under shift 12, then zeros under filter 1.
+const HALF: [u8; 32] = [
+    0x0C, 0x04, 0x11, 0x11, 0x11, 0x11, 0x11, 0x11, 0x11, 0x11, 0x11, 0x11, 0x11, 0x11, 0x11, 0x11,
+    0x1C, 0x07, 0, 0, 0, 0, 0, 0, 0, 0, 0, 0, 0, 0, 0, 0,
+];
+
+#[test]
+fn goes_back_to_the_last_start(rt: HostRuntime) -> Result<(), Fail> {
+    let mut bytes = HALF;
+    bytes[2] = 0x81;
+    let track = spu_track(&bytes).map_err(|_| "a track")?;
+    assert_eq!(rt; track.blocks(), 2);
+    assert_eq!(rt; track.loop_block(), Some(1));
+    assert_eq!(rt; play_spu_at(&track, 0), 1);
+    assert_eq!(rt; play_spu_at(&track, 1), -8);
+    assert_eq!(rt; play_spu_at(&track, 57), 1);
+    bytes[17] = 0x03;
+    let track = spu_track(&bytes).map_err(|_| "a track")?;
+    assert_eq!(rt; track.loop_block(), Some(0));
+    assert_eq!(rt; play_spu_at(&track, 57), -8);
+    let mut player = SpuPlayer::new(track);
+    assert_eq!(rt; player.next(), 1);
+    assert_eq!(rt; player.next(), -8);
+    Ok(())
+}
+
+#[test]
+fn tells_why_bytes_are_no_track(rt: HostRuntime) {
+    let mut bytes = [0u8; 48];
+    bytes[33] = 1;
+    bytes[32] = 0x50;
+    assert_eq!(rt;
+        spu_track(&bytes).err(),
+        Some(TrackFault::BadFilter {
+            block: 2,
+            filter: 5
+        })
+    );
+    bytes[17] = 1;
+    assert!(rt; spu_track(&bytes).is_ok(), "a bad filter behind the end");
+    bytes[17] = 3;
+    assert_eq!(rt;
+        spu_track(&bytes).err(),
+        Some(TrackFault::Split {
+            fault: SplitFault::NoLoopStart { at: 16 }
+        })
     );
 }

@@ -2,5 +2,5 @@ use Rattle.player_model.proofs.Inside.{stays_inside}
 use Rattle.player_model.proofs.step.step_on.Goals as goal
 
 pub returns-clause-inside : goal.returns-clause-inside
-returns-clause-inside c =
-    stays_inside _ _ _ _ _ c.track.view_is c.track.invariant c.requires.inside c.sounded-history.ensures.value c.sounded-history.ensures.range c.moved.ensures
+returns-clause-inside g c =
+    stays_inside g.S.StoredFormat.decoder g.S.StoredFormat.format _ _ _ _ _ c.track.view_is c.track.invariant.0 c.requires.inside c.step_at-history.ensures.value c.step_at-history.ensures.range c.moved.ensures

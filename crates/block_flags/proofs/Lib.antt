@@ -1,0 +1,3 @@
+pub mod LastLaws
+pub mod FlagLaws
+pub mod SplitLaws

@@ -1,4 +1,4 @@
-ghost use Rattle.std.specs.Prelude.{◌≡◌, ◌↔◌, ◌⊎◌, ℕ, ◌+◌, ◌^◌, ◌<◌, ◌≤◌, List, [], ◌++◌, length, take, IfOk, OnOk, OnErr, IsNone, IsTrue, Some, option_copied};
+ghost use Rattle.std.specs.Prelude.{◌≡◌, ◌≢◌, ◌↔◌, ◌⊎◌, ℕ, ◌+◌, ◌^◌, ◌<◌, ◌≤◌, List, [], ◌++◌, length, take, IfOk, OnOk, OnErr, IsNone, IsTrue, Some, option_copied};
 ghost use Rattle.std.specs.FinMap as map;
 ghost use Rattle.std.specs.List.{Contains};
 ghost use Rattle.host_files.specs.Memory.{one_failed};
@@ -12,7 +12,8 @@ use std::marker::Model;
 
 /// Files in memory that fail at the calls whose numbers are listed, and at a fetch of a file that is not there.
 ///
-/// Calls of [`Host`] are numbered from 0. A failed call raises the two counts and changes nothing else.
+/// Calls of [`Host`] are numbered from 0. A failed call raises the two counts and changes nothing else; any other leaves the
+/// count of failures. No call changes the list.
 #[derive(Drop)]
 pub struct MemoryHost {
     inner: SteadyHost,
@@ -106,6 +107,8 @@ impl Host for MemoryHost {
         ensures calls { self.new.held.calls ≡ raised 1 self.old.held.calls }
         ensures failed { (result ≡ Err HostFault.Failed) ↔ (Contains self.old.fails self.old.held.calls ⊎ IsNone (map.get self.old.held.files name.now)) }
         ensures changed { result ≡ Err HostFault.Failed → self.new ≡ one_failed self.old }
+        ensures quiet { result ≢ Err HostFault.Failed → self.new.faults ≡ self.old.faults }
+        ensures fails { self.new.fails ≡ self.old.fails }
     {
         if self.is_due() || self.inner.file(name).is_none() {
             return Err(self.fail());
@@ -121,6 +124,8 @@ impl Host for MemoryHost {
         ensures calls { self.new.held.calls ≡ raised 1 self.old.held.calls }
         ensures failed { (result ≡ Err HostFault.Failed) ↔ Contains self.old.fails self.old.held.calls }
         ensures changed { result ≡ Err HostFault.Failed → self.new ≡ one_failed self.old }
+        ensures quiet { result ≢ Err HostFault.Failed → self.new.faults ≡ self.old.faults }
+        ensures fails { self.new.fails ≡ self.old.fails }
     {
         if self.is_due() {
             return Err(self.fail());
@@ -136,6 +141,8 @@ impl Host for MemoryHost {
         ensures calls { self.new.held.calls ≡ raised 1 self.old.held.calls }
         ensures failed { (result ≡ Err HostFault.Failed) ↔ Contains self.old.fails self.old.held.calls }
         ensures changed { result ≡ Err HostFault.Failed → self.new ≡ one_failed self.old }
+        ensures quiet { result ≢ Err HostFault.Failed → self.new.faults ≡ self.old.faults }
+        ensures fails { self.new.fails ≡ self.old.fails }
     {
         if self.is_due() {
             return Err(self.fail());

@@ -7,7 +7,9 @@ use Rattle.std.proofs.lemmas.Bool.Decides.{nat_tests}
 use Rattle.std.proofs.lemmas.List.{drop_at, take_at, get_or_at, length-take-le}
 use Rattle.byteorder.specs.Endian.{little_number, little_bytes}
 use Rattle.byteorder.specs.Numbers.{little_number-reads_back}
-use Rattle.player_model.specs.Track.{Track, track_of, loop_block_of}
+use Rattle.player_model.specs.Track.{Track, loop_block_of}
+use Rattle.player_model.specs.BrrTrack.{track_of}
+use Rattle.player_model.specs.BrrFormat.{brr_format}
 use Rattle.snes_directory.specs.declared.part.ImagePart.{ImagePart}
 use Rattle.snes_directory.specs.Part.{loop_address, IsPart}
 use Rattle.snes_directory.specs.Spelling.{header_bytes, rate_bytes, entry_bytes, directory_bytes, block_bytes, memory_bytes, image_file}
@@ -48,7 +50,7 @@ again_of-again n base start again (Some l) is =
     rw (above, gap) refl
 
 again_again : (base : ℕ) (memory : List ℕ) (n start again : ℕ) (track : Track) (o : Option ℕ) → number2_at memory (4 * n + 2) ≡ base + again → track_of memory start again ≡ Ok track
-    → loop_block_of track ≡ o → again ≡ loop_address start o → again_in base memory n start ≡ Ok again
+    → loop_block_of brr_format track ≡ o → again ≡ loop_address start o → again_in base memory n start ≡ Ok again
 unfolding again_in
 again_again base memory n start again track o is tracks loops address =
     rw is rw (place_again base start again) rw tracks rw loops (again_of-again n base start again o address)

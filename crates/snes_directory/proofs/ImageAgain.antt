@@ -74,6 +74,11 @@ shown : (b : Bool) → not b ≡ false → b ≡ true
 shown true h = refl
 shown false h = cc
 
+-- a file has the bytes of its header, its rates and its memory
+pub image_file-length : (base : ℕ) (parts : List ImagePart) → length (image_file base parts) ≡ 16 + 4 * length parts + length (memory_bytes base parts)
+unfolding image_file header_bytes
+image_file-length base parts = omega (arith, body-length base parts)
+
 -- what was not refused fits
 end_of-ok : (base entries blocks total : ℕ) → end_of base entries blocks ≡ Ok total → (is_base base ≡ true) × (base + 4 * entries + 9 * blocks ≤ 65536)
 unfolding end_of

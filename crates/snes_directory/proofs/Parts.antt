@@ -1,11 +1,10 @@
 -- What a sample that may be written says of its blocks.
-use Rattle.std.proofs.Common.{◌≡◌, ℕ, suc, ◌+◌, ◌-◌, ◌*◌, ◌/◌, ◌%◌, ◌<◌, ◌≤◌, Bool, true, false, cond, ◌&&◌, length, Option, Some, None, refl, ap, ◌∙◌, arith}
-use Rattle.std.specs.Prelude.{IfSome, nat_lt, nat_le, nat_eq}
-use Rattle.std.proofs.lemmas.Bool.{and_parts, ltb-true}
-use Rattle.player_model.specs.Track.{Track, repeats_at, is_block}
+use Rattle.std.proofs.Common.{◌≡◌, ℕ, suc, ◌+◌, ◌*◌, ◌<◌, ◌≤◌, length, Option, Some, None, refl, ap, ◌∙◌, arith}
+use Rattle.std.specs.Prelude.{IfSome}
+use Rattle.player_model.specs.Track.{Track}
 use Rattle.snes_directory.specs.declared.part.ImagePart.{ImagePart}
 use Rattle.snes_directory.specs.Part.{blocks_of, loop_address, track_in, IsPart}
-use Rattle.snes_directory.proofs.Tracks.{IsClosed, track_of-closed}
+use Rattle.snes_directory.proofs.Tracks.{IsClosed, track_of-closed, again_from, is_block-within}
 
 -- its blocks alone are a closed track
 pub part-closed : (part : ImagePart) → IsPart part → IsClosed part.blocks 0 (loop_address 0 part.loop_block) (track_in part)
@@ -19,25 +18,15 @@ last-is part p = ap (λ (t : Track). t.blocks) (part-closed part p).is
 pub some_blocks : (part : ImagePart) → IsPart part → 1 ≤ blocks_of part
 some_blocks part p = omega (arith, last-is part p)
 
--- a choice of a block was made
-chosen : (b : Bool) (n l : ℕ) → cond b (Some n) None ≡ Some l → b ≡ true
-chosen true n l h = refl
-chosen false n l h = cc
-
 -- its loop block is one of its blocks, by whether it has one
 loop_in : (part : ImagePart) (o : Option ℕ) → IsPart part → part.loop_block ≡ o → IfSome o (λ l. l < blocks_of part)
 loop_in part None p e = tt
 loop_in part (Some l) p e =
     let closed = part-closed part p in
     let again = loop_address 0 part.loop_block in
-    let repeats : repeats_at part.blocks 0 (blocks_of part - 1) ≡ true = chosen (repeats_at part.blocks 0 (blocks_of part - 1)) ((again - 0) / 9) l (p.loop_block ∙ e) in
-    let last : closed.last ≡ blocks_of part - 1 = omega (arith, last-is part p) in
-    let fits : is_block 0 (suc closed.last) again ≡ true = closed.again_fits (ap (repeats_at part.blocks 0) last ∙ repeats) in
-    let parts = and_parts (nat_le 0 again) (nat_eq ((again - 0) % 9) 0 && nat_lt ((again - 0) / 9) (suc closed.last)) fits in
-    let more = and_parts (nat_eq ((again - 0) % 9) 0) (nat_lt ((again - 0) / 9) (suc closed.last)) parts.1 in
-    let below : (again - 0) / 9 < suc closed.last = ltb-true _ _ more.1 in
+    let within = is_block-within 0 (suc closed.last) again (again_from part.blocks 0 again (track_in part) l closed (p.loop_block ∙ e)) in
     let place : again ≡ 0 + 9 * l = ap (loop_address 0) e in
-    omega (arith, below, place, last-is part p)
+    omega (arith, within.1, place, last-is part p)
 
 -- its loop block is one of its blocks
 pub loop_block-within : (part : ImagePart) → IsPart part → IfSome part.loop_block (λ l. l < blocks_of part)

@@ -2,8 +2,10 @@
 use Rattle.std.specs.Prelude.{ℕ, ◌+◌, ◌-◌, ◌*◌, ◌==◌, ◌||◌, nat_lt, if◌then◌else◌, List, length, Option, Some, None, Result, Ok, Err}
 use Rattle.adpcm_nums.specs.Outcome.{◌>>=◌}
 use Rattle.player_model.specs.declared.fault.TrackFault.{TrackFault}
-use Rattle.player_model.specs.declared.fault.TrackFault.TheVariants.{NoEnd, BadAgain}
-use Rattle.player_model.specs.Track.{Track, track_of, loop_block_of}
+use Rattle.player_model.specs.declared.fault.TrackFault.TheVariants.{NoEnd, BadAgain, Split, BadFilter}
+use Rattle.player_model.specs.Track.{Track, loop_block_of}
+use Rattle.player_model.specs.BrrTrack.{track_of}
+use Rattle.player_model.specs.BrrFormat.{brr_format}
 use Rattle.snes_directory.specs.declared.fault.ImageFault.{ImageFault}
 use Rattle.snes_directory.specs.declared.fault.ImageFault.TheVariants.{BadRate, BadEntry, BadLoopAddress}
 use Rattle.snes_directory.specs.declared.entry.Entry.{Entry}
@@ -29,6 +31,9 @@ again_place base start address = if nat_lt address base then start else address 
 abbrev pub entry_fault : ℕ → TrackFault → ImageFault
 entry_fault i (NoEnd at) = BadEntry i
 entry_fault i (BadAgain at) = BadLoopAddress i
+-- faults of SPU-ADPCM, which no track of BRR has
+entry_fault i (Split fault) = BadEntry i
+entry_fault i (BadFilter block filter) = BadEntry i
 
 -- a track, or its fault as the fault of an entry
 abbrev pub tracked : ℕ → Result Track TrackFault → Result Track ImageFault
@@ -44,7 +49,7 @@ again_of i base start address (Some block) = if nat_lt address base then Err (Ba
 unfoldable pub again_in : ℕ → List ℕ → ℕ → ℕ → Result ℕ ImageFault
 again_in base memory i start = do
   track ← tracked i (track_of memory start (again_place base start (number2_at memory (4 * i + 2))))
-  again_of i base start (number2_at memory (4 * i + 2)) (loop_block_of track)
+  again_of i base start (number2_at memory (4 * i + 2)) (loop_block_of brr_format track)
 
 -- entry i of a file with this base and memory, or its first fault
 unfoldable pub entry_of : List ℕ → ℕ → List ℕ → ℕ → Result Entry ImageFault

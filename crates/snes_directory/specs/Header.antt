@@ -5,7 +5,7 @@ use Rattle.byteorder.specs.Endian.{little_number}
 use Rattle.snes_directory.specs.declared.fault.ImageFault.{ImageFault}
 use Rattle.snes_directory.specs.declared.fault.ImageFault.TheVariants.{NotImage, BadVersion, BadEntries, BadBase, ImageFull, ImageLength}
 use Rattle.snes_directory.specs.declared.header.Header.{Header}
-use Rattle.snes_directory.specs.Layout.{is_base}
+use Rattle.snes_directory.specs.Layout.{is_base, is_past_end}
 
 -- the numbers of two and four bytes at a place
 abbrev pub number2_at : List ℕ → ℕ → ℕ
@@ -21,7 +21,7 @@ memory_place entries = 16 + 4 * entries
 -- the file has exactly the memory that it tells of, and that does not pass the console's end
 unfoldable pub sized_header : List ℕ → ℕ → ℕ → ℕ → Result Header ImageFault
 sized_header bytes entries base len =
-    if nat_lt 65536 (base + len) then Err (ImageFull (base + len))
+    if is_past_end (base + len) then Err (ImageFull (base + len))
     else (if not (length bytes == memory_place entries + len) then Err (ImageLength (length bytes) (memory_place entries + len))
     else Ok (record { entries = entries; base = base }))
 

@@ -10,12 +10,20 @@ use Rattle.snes_directory.specs.declared.layout.Layout.{Layout}
 abbrev pub is_base : ℕ → Bool
 is_base base = base % 256 == 0 && nat_le base 65280
 
--- the address behind so many entries of four bytes and blocks of nine, unless it is too high
+-- the address behind so many entries of four bytes and blocks of nine
+abbrev pub end_address : ℕ → ℕ → ℕ → ℕ
+end_address base entries blocks = base + 4 * entries + 9 * blocks
+
+-- whether the memory ends before an address
+abbrev pub is_past_end : ℕ → Bool
+is_past_end address = nat_lt 65536 address
+
+-- the address behind so many entries and blocks, unless it is too high
 unfoldable pub end_of : ℕ → ℕ → ℕ → Result ℕ LayFault
 end_of base entries blocks =
     if not (is_base base) then Err (BadBase base)
-    else (if nat_lt 65536 (base + 4 * entries + 9 * blocks) then Err (ImageFull (base + 4 * entries + 9 * blocks))
-    else Ok (base + 4 * entries + 9 * blocks))
+    else (if is_past_end (end_address base entries blocks) then Err (ImageFull (end_address base entries blocks))
+    else Ok (end_address base entries blocks))
 
 -- the address of sample i: behind the directory and the samples before it
 abbrev pub start_of : ℕ → List ℕ → ℕ → ℕ

@@ -1,6 +1,8 @@
 -- A sample as it is handed to the writer of an image.
 use Rattle.std.specs.Prelude.{◌≡◌, ℕ, ◌+◌, ◌*◌, ◌/◌, ◌^◌, ◌<◌, ◌≤◌, length, Option, Some, None, Ok}
-use Rattle.player_model.specs.Track.{Track, track_of, loop_block_of}
+use Rattle.player_model.specs.Track.{Track, loop_block_of}
+use Rattle.player_model.specs.BrrTrack.{track_of}
+use Rattle.player_model.specs.BrrFormat.{brr_format}
 use Rattle.snes_directory.specs.declared.part.ImagePart.{ImagePart}
 
 -- its blocks of nine bytes
@@ -23,4 +25,4 @@ pub record IsPart (part : ImagePart) : Type 0 where
   pub small : length part.blocks < 2 ^ 31
   pub whole : length part.blocks ≡ 9 * blocks_of part
   pub track : track_of part.blocks 0 (loop_address 0 part.loop_block) ≡ Ok (track_in part)
-  pub loop_block : loop_block_of (track_in part) ≡ part.loop_block
+  pub loop_block : loop_block_of brr_format (track_in part) ≡ part.loop_block

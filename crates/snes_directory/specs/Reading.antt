@@ -1,7 +1,7 @@
 -- What an image file says, or its first fault.
-use Rattle.std.specs.Prelude.{◌≡◌, ◌≤◌, ◌<◌, ℕ, zero, suc, List, [], ◌∷◌, ◌++◌, length, drop, get_or, Result, Ok}
+use Rattle.std.specs.Prelude.{◌≡◌, ◌≤◌, ◌<◌, ◌+◌, ◌%◌, ℕ, zero, suc, List, [], ◌∷◌, ◌++◌, length, drop, get_or, All, Result, Ok}
 use Rattle.adpcm_nums.specs.Outcome.{◌>>=◌}
-use Rattle.player_model.specs.Track.{track_of}
+use Rattle.player_model.specs.BrrTrack.{track_of}
 use Rattle.snes_directory.specs.declared.fault.ImageFault.{ImageFault}
 use Rattle.snes_directory.specs.declared.entry.Entry.{Entry}
 use Rattle.snes_directory.specs.declared.entry_lists.EntryLists.{EntryLists}
@@ -40,16 +40,27 @@ image_of bytes = do
   entries ← entries_of bytes header.base (drop (memory_place header.entries) bytes) header.entries
   Ok (image_with header.base (drop (memory_place header.entries) bytes) entries)
 
--- a player that begins at one place of a memory and goes on at another has a track
+-- a player that begins at one place of a memory and goes on at another has a track, and both places lie in the memory
 pub record HasTrack (memory : List ℕ) (start again : ℕ) : Type 0 where
+  pub start_within : start < length memory
+  pub again_within : again < length memory
   pub blocks : ℕ
   pub track : track_of memory start again ≡ Ok (record { memory = memory; start = start; again = again; blocks = blocks })
 
+-- samples a second that an entry may have
+pub record IsRate (rate : ℕ) : Type 0 where
+  pub some : 1 ≤ rate
+  pub high : rate ≤ 1000000
+
 -- what holds of each image that is read
 pub record IsImage (image : Image) : Type 0 where
+  -- the directory begins on a page, and the memory does not pass the console's end
+  pub page : image.base % 256 ≡ 0
+  pub low : image.base ≤ 65280
+  pub room : image.base + length image.memory ≤ 65536
   pub some : 1 ≤ length image.rates
   pub few : length image.rates ≤ 64
   pub starts : length image.starts ≡ length image.rates
   pub agains : length image.agains ≡ length image.rates
-  pub small : length image.memory ≤ 65536
+  pub rates : All IsRate image.rates
   pub tracks : (i : ℕ) → i < length image.rates → HasTrack image.memory (get_or image.starts i 0) (get_or image.agains i 0)

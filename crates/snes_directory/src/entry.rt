@@ -63,6 +63,8 @@ fn entry_fault(i: u32, fault: TrackFault) -> ImageFault
     match fault {
         TrackFault::NoEnd { .. } => ImageFault::BadEntry { entry },
         TrackFault::BadAgain { .. } => ImageFault::BadLoopAddress { entry },
+        // Faults of SPU-ADPCM, which no track of BRR has.
+        TrackFault::Split { .. } | TrackFault::BadFilter { .. } => ImageFault::BadEntry { entry },
     }
 }
 

@@ -1,8 +1,9 @@
-ghost use Rattle.std.specs.Prelude.{◌≡◌, ◌^◌, ◌<◌, ◌≤◌, length, IfOk};
+ghost use Rattle.std.specs.Prelude.{◌≡◌, ◌^◌, ◌%◌, ◌<◌, ◌≤◌, length, IfOk};
 ghost use Rattle.snes_directory.specs.Header.{sized_header, numbered_header, header_of};
 ghost use Rattle.snes_directory.specs.Sizes.{IsHeaderOf};
 
 use crate::fault::ImageFault;
+use crate::layout::is_past_end;
 use byteorder::{ByteOrder, LittleEndian};
 
 /// What stands in front of an image file.
@@ -20,11 +21,13 @@ fn sized(bytes: &[u8], entries: u32, base: u32, len: u32) -> Result<Header, Imag
     requires small { length bytes.now < 2 ^ 31 }
     requires some { 1 ≤ entries }
     requires few { entries ≤ 64 }
+    requires page { base % 256 ≡ 0 }
+    requires low { base ≤ 65280 }
     ensures value { result ≡ sized_header bytes.now entries base len }
     ensures fits { IfOk result (IsHeaderOf (length bytes.now)) }
 {
     let total = u64::from(base) + u64::from(len);
-    if total > 65_536 {
+    if is_past_end(total) {
         return Err(ImageFault::ImageFull { total });
     }
     let have = bytes.len() as u64;

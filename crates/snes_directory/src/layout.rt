@@ -1,7 +1,7 @@
 ghost use Rattle.std.specs.Prelude.{◌≡◌, ◌+◌, ◌*◌, ◌^◌, ◌<◌, ◌≤◌, IfOk, length, map, sum, take};
 ghost use Rattle.std.specs.List.{range_with_len};
 ghost use Rattle.adpcm_nums.specs.Outcome.{Gives};
-ghost use Rattle.snes_directory.specs.Layout.{end_of, layout_of};
+ghost use Rattle.snes_directory.specs.Layout.{end_address, is_past_end, end_of, layout_of};
 ghost use Rattle.snes_directory.specs.declared.fault.LayFault.TheVariants.{NoMemory as OutOfMemory};
 
 use crate::fault::LayFault;
@@ -19,20 +19,36 @@ pub struct Layout {
     pub total: u64,
 }
 
+/// The address behind so many entries of four bytes and blocks of nine (fullsnes, BRR samples and the sample directory).
+pub fn end_address(base: u32, entries: u64, blocks: u64) -> u64
+    requires entries { entries ≤ 64 }
+    requires blocks { blocks < 2 ^ 40 }
+    ensures { result ≡ end_address base entries blocks }
+{
+    u64::from(base) + 4 * entries + 9 * blocks
+}
+
+/// Whether the console's memory of 65,536 bytes ends before an address.
+pub fn is_past_end(address: u64) -> bool
+    ensures { result ≡ is_past_end address }
+{
+    address > 65_536
+}
+
 /// The address behind so many entries and blocks, unless it is too high.
 #[tactic(auto, unfolding(crate::specs::Layout::end_of))]
 pub(crate) fn memory_end(base: u32, entries: u64, blocks: u64) -> Result<u64, LayFault>
     requires entries { entries ≤ 64 }
     requires blocks { blocks < 2 ^ 40 }
     ensures value { result ≡ end_of base entries blocks }
-    ensures sum { IfOk result (λ total. total ≡ base + 4 * entries + 9 * blocks) }
+    ensures sum { IfOk result (λ total. total ≡ end_address base entries blocks) }
     ensures high { IfOk result (λ total. total ≤ 65536) }
 {
     if base % 256 != 0 || base > 65_280 {
         return Err(LayFault::BadBase { base });
     }
-    let total = u64::from(base) + 4 * entries + 9 * blocks;
-    if total > 65_536 {
+    let total = end_address(base, entries, blocks);
+    if is_past_end(total) {
         return Err(LayFault::ImageFull { total });
     }
     Ok(total)

@@ -15,7 +15,7 @@ mod writing;
 pub use fault::{ImageFault, LayFault};
 pub use image::Image;
 pub use laws::{samples_lie_in_memory, written_is_read};
-pub use layout::{Layout, lay_out};
+pub use layout::{Layout, end_address, is_past_end, lay_out};
 pub use part::ImagePart;
 pub use reading::read_image;
 pub use writing::write_image;

@@ -128,13 +128,15 @@ fn put_image(alloc: Global, base: u32, len: u32, parts: &[ImagePart]) -> Result<
 /// directory and the blocks are the console's, by fullsnes; the file round them is this project's own choice).
 ///
 /// `base` is the address of the directory. The file is refused as `lay_out` refuses its blocks. Each part has whole
-/// blocks, the end flag on its last one alone, and a loop block exactly where that one repeats.
+/// blocks, the end flag on its last one alone, and a loop block exactly where that one repeats. So a file has at most
+/// 65,808 bytes.
 #[tactic(auto, unfolding(crate::specs::Spelling::written_image))]
 pub fn write_image(alloc: Global, base: u32, parts: &[ImagePart]) -> Result<Bytes, LayFault>
     requires some { 1 ≤ length parts.now }
     requires few { length parts.now ≤ 64 }
     requires parts { All IsPart parts.now }
-    ensures { Gives OutOfMemory (λ file. file) result (written_image base parts.now) }
+    ensures value { Gives OutOfMemory (λ file. file) result (written_image base parts.now) }
+    ensures short { IfOk result (λ file. length file ≤ 16 + 4 * 64 + 65536) }
 {
     let entries = parts.len() as u32;
     let total = memory_end(base, u64::from(entries), all_blocks(parts))?;

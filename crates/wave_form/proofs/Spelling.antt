@@ -74,3 +74,13 @@ wave_loop_file-is rate samples at =
     flat_map-append chunk_bytes (sound_chunks rate samples) (loop_chunk rate at ∷ []) ∙ ap (λ x. sound ++ x) (append-nil loop) in
     let long : length (sound ++ loop) ≡ 32 + length samples * 2 + 68 = length-append sound loop ∙ omega (arith, length-sound rate samples, length-loop rate at) in
     ap (λ x. riff_head (length x) ++ x) split ∙ (ap (λ n. riff_head n ++ (sound ++ loop)) long ∙ sym (append_assoc (riff_head (32 + length samples * 2 + 68)) sound loop))
+
+-- the file of a sound has 44 bytes and two for each sample
+pub length-wave_file : (rate : ℕ) (samples : List ℤ) → length (wave_file rate samples) ≡ 44 + 2 * length samples
+length-wave_file rate samples = ap length (wave_file-is rate samples) ∙ omega (arith, length-sound rate samples)
+
+-- and 68 more with a loop
+pub length-wave_loop_file : (rate : ℕ) (samples : List ℤ) (at : LoopAt) → length (wave_loop_file rate samples at) ≡ 112 + 2 * length samples
+length-wave_loop_file rate samples at =
+    let front = riff_head (32 + length samples * 2 + 68) ++ flat_map chunk_bytes (sound_chunks rate samples) in
+    ap length (wave_loop_file-is rate samples at) ∙ omega (arith, length-append front (chunk_bytes (loop_chunk rate at)), length-sound rate samples, length-loop rate at)

@@ -21,7 +21,8 @@ pub fn write_wave(alloc: Global, rate: u32, samples: &[i32]) -> Result<Bytes, No
     requires low_rate { rate ≤ 1000000 }
     requires count { length samples.now ≤ 2 ^ 24 }
     requires range { AreSamples samples.now }
-    ensures { IfOk result (λ file. file ≡ wave_file rate samples.now) }
+    ensures value { IfOk result (λ file. file ≡ wave_file rate samples.now) }
+    ensures size { IfOk result (λ file. length file ≡ 44 + 2 * length samples.now) }
 {
     match sound_file(alloc, rate, samples, 0) {
         Ok(file) => Ok(Bytes::from_vec(file)),
@@ -45,7 +46,8 @@ pub fn write_wave_loop(
     requires range { AreSamples samples.now }
     requires forward { at.start ≤ at.end }
     requires inside { at.end < length samples.now }
-    ensures { IfOk result (λ file. file ≡ wave_loop_file rate samples.now at) }
+    ensures value { IfOk result (λ file. file ≡ wave_loop_file rate samples.now at) }
+    ensures size { IfOk result (λ file. length file ≡ 112 + 2 * length samples.now) }
 {
     match loop_file(alloc, rate, samples, at) {
         Ok(file) => Ok(Bytes::from_vec(file)),

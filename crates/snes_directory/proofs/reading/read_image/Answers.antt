@@ -17,10 +17,13 @@ returns-clause-image c =
     let are : AreEntries memory count entries = entries_of-are bytes base memory count entries read in
     let long : length memory ≡ length (take (length bytes - front) (drop front bytes)) = ap length c.in_ok-memory.ensures in
     record {
+      page = fits.page;
+      low = fits.low;
+      room = omega (arith, fits.room, long, length-take (length bytes - front) (drop front bytes), length-drop front bytes);
       some = omega (arith, fits.some, are.rates);
       few = omega (arith, fits.few, are.rates);
       starts = omega (arith, are.rates, are.starts);
       agains = omega (arith, are.rates, are.agains);
-      small = omega (arith, fits.room, long, length-take (length bytes - front) (drop front bytes), length-drop front bytes);
+      rates = are.each_rate;
       tracks = λ i less. are.tracks i (omega (arith, are.rates));
     }

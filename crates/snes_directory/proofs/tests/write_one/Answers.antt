@@ -1,6 +1,6 @@
 use Rattle.std.proofs.Common.{◌≡◌, ℕ, zero, suc, ◌<◌, List, [], ◌∷◌, Some, refl, sym, subst, arith, get_or}
 use Rattle.adpcm_nums.specs.First.{first_where}
-use Rattle.player_model.specs.Track.{track_of}
+use Rattle.player_model.specs.BrrTrack.{track_of}
 use Rattle.snes_directory.specs.declared.part.ImagePart.{ImagePart}
 use Rattle.snes_directory.specs.Part.{IsPart}
 use Rattle.snes_directory.proofs.tests.write_one.Goals as goal

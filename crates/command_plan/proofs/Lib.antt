@@ -6,3 +6,4 @@ pub mod ReadEach
 pub mod Storing
 pub mod Promised
 pub mod Tested
+pub mod Kept

@@ -11,7 +11,9 @@ use Rattle.loop_fit.specs.declared.fault.FitFault.TheVariants as fit
 use Rattle.snes_directory.specs.declared.fault.ImageFault.{ImageFault}
 use Rattle.snes_directory.specs.declared.fault.ImageFault.TheVariants as image
 use Rattle.player_model.specs.declared.fault.TrackFault.{TrackFault}
-use Rattle.player_model.specs.declared.fault.TrackFault.TheVariants.{NoEnd, BadAgain}
+use Rattle.player_model.specs.declared.fault.TrackFault.TheVariants.{NoEnd, BadAgain, Split, BadFilter}
+use Rattle.block_flags.specs.declared.split.SplitFault.{SplitFault}
+use Rattle.block_flags.specs.declared.split.SplitFault.TheVariants as split
 use Rattle.manifest_reader.specs.declared.fault.ManifestFault.{ManifestFault}
 use Rattle.manifest_reader.specs.declared.fault.ManifestFault.TheVariants as manifest
 use Rattle.command_plan.specs.declared.input_fault.InputFault.{InputFault}
@@ -75,10 +77,18 @@ image_parts (image.BadEntry entry) = row (codes "BadEntry") (entry ∷ [])
 image_parts (image.BadLoopAddress entry) = row (codes "BadLoopAddress") (entry ∷ [])
 image_parts image.NoMemory = row (codes "NoMemory") []
 
--- the faults of a track in an image
+-- the faults of blocks that do not split
+abbrev pub split_parts : SplitFault → List LinePart
+split_parts (split.Ragged len) = row (codes "Ragged") (len ∷ [])
+split_parts split.NoEnd = row (codes "NoEnd") []
+split_parts (split.NoLoopStart at) = row (codes "NoLoopStart") (at ∷ [])
+
+-- the faults of a track
 abbrev pub track_parts : TrackFault → List LinePart
 track_parts (NoEnd at) = row (codes "NoEnd") (at ∷ [])
 track_parts (BadAgain at) = row (codes "BadAgain") (at ∷ [])
+track_parts (Split fault) = split_parts fault
+track_parts (BadFilter block filter) = row (codes "BadFilter") (block ∷ filter ∷ [])
 
 -- the faults of a manifest
 abbrev pub manifest_parts : ManifestFault → List LinePart

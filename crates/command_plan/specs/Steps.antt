@@ -1,12 +1,12 @@
 -- How a command comes to its status, one part after another: what the functions of this crate say of the world.
-use Rattle.std.specs.Prelude.{Bool, true, false, ◌≡◌, ◌⊎◌, ℕ, ◌+◌, ◌≤◌, List, length, Option, Some, slice_get, Result, Ok, Err}
+use Rattle.std.specs.Prelude.{Bool, true, false, ◌≡◌, ◌≢◌, ◌⊎◌, ℕ, ◌+◌, ◌≤◌, List, length, Option, Some, slice_get, Result, Ok, Err}
 use Rattle.host_files.specs.Outside.{World, grown, GrowsByFront, raised, Rose}
 use Rattle.host_files.specs.declared.named_file.NamedFile.{NamedFile}
 use Rattle.command_plan.specs.declared.status.Status.{Status}
-use Rattle.command_plan.specs.declared.status.Status.TheVariants.{Done, Memory}
+use Rattle.command_plan.specs.declared.status.Status.TheVariants.{Done, Words, Memory}
 use Rattle.command_plan.specs.declared.status.HostCall.{HostCall}
 use Rattle.command_plan.specs.declared.status.HostCall.TheVariants.{Fetch, Store, Say}
-use Rattle.command_plan.specs.Ending.{Ending, Finished, Declined, Broken, Starved, ending_of, is_early}
+use Rattle.command_plan.specs.Ending.{Ending, Finished, Declined, Broken, Starved, ending_of, is_early, is_device}
 use Rattle.command_plan.specs.Lines.{fault_line}
 use Rattle.command_plan.specs.Plan.{Plan, Completes, LeftAt, PartlySet, names_in, all_stored}
 use Rattle.command_plan.specs.Reading.{Reading, unwritten, writing_calls}
@@ -71,6 +71,18 @@ pub record HasRead (c : Reading) (a b : World) : Type 0 where
 pub record Halts (c : Reading) (a b : World) (s : Status) : Type 0 where
   pub comes : Comes (unwritten c) a b s
   pub early : is_early (ending_of s) ≡ true
+
+-- what each part of a command keeps to, whatever the host tells: no fault is taken back, its status tells of a failed call only
+-- where a fault rose, and it never says that the words are no command
+pub record Keeps (a b : World) (s : Status) : Type 0 where
+  pub later : a.faults ≤ b.faults
+  pub device : is_device s ≡ true → Rose a.faults b.faults
+  pub words : s ≢ Words
+
+-- a status that no call of the host brought about, nor the words
+pub record IsPlain (s : Status) : Type 0 where
+  pub device : is_device s ≡ false
+  pub words : s ≢ Words
 
 -- what a function that reads promises: with its value all was read and the value is right, or else it halts at the status
 abbrev pub ReadsTo : {T : Type 0} → Reading → World → World → Result T Status → (T → Type 0) → Type 0

@@ -1,9 +1,10 @@
 ghost use Rattle.std.specs.Prelude.{◌≡◌, ◌++◌, IfOk};
-ghost use Rattle.command_plan.specs.FaultWords.{wave_parts, loop_parts, fit_parts, image_parts, track_parts, input_parts, range_row, manifest_parts};
+ghost use Rattle.command_plan.specs.FaultWords.{wave_parts, loop_parts, fit_parts, image_parts, split_parts, track_parts, input_parts, range_row, manifest_parts};
 
 use crate::input_fault::InputFault;
 use crate::row::{with_number, with_row, with_text};
 use adpcm_nums::NoMemory;
+use block_flags::SplitFault;
 use loop_fit::FitFault;
 use manifest_reader::ManifestFault;
 use player_model::TrackFault;
@@ -110,6 +111,21 @@ fn with_image(
     }
 }
 
+/// The words of a fault in blocks that do not split.
+fn with_split(
+    alloc: Global,
+    parts: Vec<LinePart>,
+    fault: &SplitFault,
+) -> Result<Vec<LinePart>, NoMemory>
+    ensures { IfOk result (λ all. all.items ≡ parts.items ++ split_parts fault.now) }
+{
+    match fault {
+        SplitFault::Ragged { len } => with_row(alloc, parts, "Ragged", &[*len]),
+        SplitFault::NoEnd => with_row(alloc, parts, "NoEnd", &[]),
+        SplitFault::NoLoopStart { at } => with_row(alloc, parts, "NoLoopStart", &[*at]),
+    }
+}
+
 /// The words of a fault in the blocks of a track.
 fn with_track(
     alloc: Global,
@@ -121,6 +137,13 @@ fn with_track(
     match fault {
         TrackFault::NoEnd { at } => with_row(alloc, parts, "NoEnd", &[*at]),
         TrackFault::BadAgain { at } => with_row(alloc, parts, "BadAgain", &[*at]),
+        TrackFault::Split { fault } => with_split(alloc, parts, fault),
+        TrackFault::BadFilter { block, filter } => with_row(
+            alloc,
+            parts,
+            "BadFilter",
+            &[u64::from(*block), u64::from(*filter)],
+        ),
     }
 }
 

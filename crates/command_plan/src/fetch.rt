@@ -1,8 +1,7 @@
-ghost use Rattle.std.specs.Prelude.{◌≡◌, ◌≢◌, ◌+◌, ◌≤◌, ◌<◌, ◌^◌, true, length, take, IfOk, IfErr, Some};
-ghost use Rattle.host_files.specs.Outside.{Files, content_of, Rose};
-ghost use Rattle.command_plan.specs.Ending.{is_device};
-ghost use Rattle.command_plan.specs.Reading.{fetched, whole_reading};
-ghost use Rattle.command_plan.specs.Steps.{ReadsTo};
+ghost use Rattle.std.specs.Prelude.{◌≡◌, ◌+◌, ◌≤◌, ◌<◌, ◌^◌, length, take, IfOk, Some};
+ghost use Rattle.host_files.specs.Outside.{Files, content_of};
+ghost use Rattle.command_plan.specs.Reading.{fetched, status_of, whole_reading};
+ghost use Rattle.command_plan.specs.Steps.{Keeps, ReadsTo};
 
 use crate::input_fault::InputFault;
 use crate::status::Status;
@@ -19,9 +18,7 @@ pub fn fetch_front<H: Host>(
 ) -> Result<Vec<u8>, Status>
     requires { most < 2 ^ 32 }
     ensures bound { IfOk result (λ v. length v.items ≤ most + 1) }
-    ensures later { (H.world host.old).faults ≤ (H.world host.new).faults }
-    ensures device { IfErr result (λ s. is_device s ≡ true → Rose (H.world host.old).faults (H.world host.new).faults) }
-    ensures words { IfErr result (λ s. s ≢ Status.Words) }
+    ensures keeps { Keeps (H.world host.old) (H.world host.new) (status_of result) }
     ensures told { (files : Files) → (H.world host.old).files ≡ Some files →
         ReadsTo (fetched name.now) (H.world host.old) (H.world host.new) result (λ v. v.items ≡ take (most + 1) (content_of files name.now)) }
 {
@@ -41,16 +38,11 @@ pub fn fetch_whole<H: Host>(
     too_long: InputFault,
 ) -> Result<Vec<u8>, Status>
     requires { most < 2 ^ 32 }
-    ensures later { (H.world host.old).faults ≤ (H.world host.new).faults }
-    ensures device { IfErr result (λ s. is_device s ≡ true → Rose (H.world host.old).faults (H.world host.new).faults) }
-    ensures words { IfErr result (λ s. s ≢ Status.Words) }
+    ensures keeps { Keeps (H.world host.old) (H.world host.new) (status_of result) }
     ensures told { (files : Files) → (H.world host.old).files ≡ Some files →
         ReadsTo (whole_reading files name.now most too_long) (H.world host.old) (H.world host.new) result (λ v. v.items ≡ content_of files name.now) }
 {
-    let bytes = match fetch_front(alloc, host, name, most) {
-        Ok(bytes) => bytes,
-        Err(status) => return Err(status),
-    };
+    let bytes = fetch_front(alloc, host, name, most)?;
     if bytes.len() as u64 > most {
         return Err(input_refused(alloc, name, too_long));
     }

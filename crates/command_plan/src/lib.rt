@@ -29,8 +29,8 @@
 //!    status. It promises `Promises`, by the lemma `promised`; `answers` and `done_is` give what
 //!    that says where the host did not fail, and at `Done`.
 //!
-//! What holds of a host that tells nothing stands in clauses apart: `later` (no fault is taken
-//! back), `device` (a `Device` status only where a fault rose) and `words` (never `Words`).
+//! What holds of a host that tells nothing, too, stands in one clause, `keeps`: no fault is taken back, a `Device` status
+//! comes only where a fault rose, and never `Words` (`Keeps` of `specs/Steps`; `IsPlain` for functions that see no host).
 #![tactic(auto)]
 
 mod closing;

@@ -1,7 +1,5 @@
-ghost use Rattle.std.specs.Prelude.{◌≡◌, ◌≢◌, ◌≤◌, true, IfErr};
-ghost use Rattle.host_files.specs.Outside.{Rose};
-ghost use Rattle.command_plan.specs.Ending.{is_device};
-ghost use Rattle.command_plan.specs.Steps.{Comes, writing, StoresTo};
+ghost use Rattle.command_plan.specs.Reading.{status_of};
+ghost use Rattle.command_plan.specs.Steps.{Comes, Keeps, writing, StoresTo};
 
 use crate::status::{HostCall, Status};
 use crate::stops::store_failed;
@@ -10,9 +8,7 @@ use std::alloc::Global;
 
 /// Stores the files in order, and then says the line.
 pub fn write_out<H: Host>(alloc: Global, host: &mut H, writes: &[NamedFile], line: &str) -> Status
-    ensures later { (H.world host.old).faults ≤ (H.world host.new).faults }
-    ensures device { is_device result ≡ true → Rose (H.world host.old).faults (H.world host.new).faults }
-    ensures words { result ≢ Status.Words }
+    ensures keeps { Keeps (H.world host.old) (H.world host.new) result }
     ensures told { Comes (writing writes.now line.now) (H.world host.old) (H.world host.new) result }
 {
     match store_all(alloc, host, writes) {
@@ -27,9 +23,7 @@ pub fn write_out<H: Host>(alloc: Global, host: &mut H, writes: &[NamedFile], lin
 
 /// Stores the files in order.
 fn store_all<H: Host>(alloc: Global, host: &mut H, writes: &[NamedFile]) -> Result<(), Status>
-    ensures later { (H.world host.old).faults ≤ (H.world host.new).faults }
-    ensures device { IfErr result (λ s. is_device s ≡ true → Rose (H.world host.old).faults (H.world host.new).faults) }
-    ensures words { IfErr result (λ s. s ≢ Status.Words) }
+    ensures keeps { Keeps (H.world host.old) (H.world host.new) (status_of result) }
     ensures told { StoresTo writes.now (H.world host.old) (H.world host.new) result }
 {
     for write in writes {

@@ -1,9 +1,9 @@
 -- The names of samples and files, as the code goes over them.
-use Rattle.std.proofs.Common.{◌≡◌, ℕ, ◌+◌, ◌<◌, true, false, List, [], ◌∷◌, ◌++◌, length, take, drop, get_or, Result, Ok, Err, refl, sym, ap, ◌∙◌}
+use Rattle.std.proofs.Common.{◌≡◌, ℕ, ◌+◌, ◌<◌, true, false, List, [], ◌∷◌, ◌++◌, length, take, drop, map, append_assoc, get_or, Result, Ok, Err, refl, sym, ap, ◌∙◌}
 use Rattle.std.specs.Prelude.{⊤}
 use Rattle.std.specs.List.{list_any}
 use Rattle.std.specs.Str.{bytes_eq}
-use Rattle.std.proofs.lemmas.List.{drop_more, take_more}
+use Rattle.std.proofs.lemmas.List.{drop_more, map-append, take_more}
 use Rattle.manifest_reader.specs.declared.fault.ManifestFault.{ManifestFault}
 use Rattle.manifest_reader.specs.declared.fault.ManifestFault.TheVariants.{SameName, Clash}
 use Rattle.manifest_reader.specs.declared.manifest.SampleEntry.{SampleEntry}
@@ -76,3 +76,9 @@ unfolding check_same
 names_end seen left total is so_far =
     let one : check_same seen left ≡ Ok tt = rw is refl in
     sym so_far ∙ one
+
+-- the names of a sample's files, put one behind the other
+pub names_more : (f : List ℕ → List ℕ) (old own : List (List ℕ)) (a b : List ℕ) → ((old ++ map f own) ++ f a ∷ []) ++ f b ∷ [] ≡ old ++ map f ((own ++ a ∷ []) ++ b ∷ [])
+names_more f old own a b =
+    append_assoc (old ++ map f own) (f a ∷ []) (f b ∷ []) ∙ (append_assoc old (map f own) (f a ∷ f b ∷ [])
+    ∙ ap (λ xs. old ++ xs) (sym (ap (map f) (append_assoc own (a ∷ []) (b ∷ [])) ∙ map-append f own (a ∷ b ∷ []))))

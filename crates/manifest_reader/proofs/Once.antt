@@ -1,5 +1,5 @@
 -- No file of a bank is stored over another.
-use Rattle.std.proofs.Common.{◌≡◌, ℕ, Bool, true, false, List, [], ◌∷◌, ◌++◌, length, map, ◌&&◌, ◌<◌, All, nat_le, refl, sym, ap, ◌∙◌, arith, length-append}
+use Rattle.std.proofs.Common.{◌≡◌, ℕ, Bool, true, false, List, [], ◌∷◌, ◌++◌, length, map, ◌&&◌, ◌<◌, All, nat_le, refl, sym, ap, subst, ◌∙◌, arith, length-append}
 use Rattle.std.specs.List.{list_all, flat_map, IsDistinct, AllByRecursion}
 use Rattle.std.specs.Str.{bytes_eq}
 use Rattle.std.proofs.lemmas.Bool.{false_from_ne_true, true≢false}
@@ -10,8 +10,8 @@ use Rattle.machine_core.specs.declared.state.Kind.{Kind}
 use Rattle.machine_core.specs.declared.state.Kind.TheVariants.{Brr, Spu, Ima}
 use Rattle.manifest_reader.specs.declared.manifest.SampleEntry.{SampleEntry}
 use Rattle.manifest_reader.specs.Words.{is_name, is_name_byte}
-use Rattle.manifest_reader.specs.Stored.{joined, sample_names, stored_names}
-use Rattle.manifest_reader.specs.Ranges.{IsEntry, AreDistinct}
+use Rattle.manifest_reader.specs.Stored.{joined, stored_endings, reserved_endings, names_with, stored_names, reserved_names}
+use Rattle.manifest_reader.specs.Ranges.{IsEntry, AreDistinct, StoresOnce}
 
 -- two texts that differ
 differ : (a b : List ℕ) → (a ≡ b → ⊥) → bytes_eq a b ≡ false
@@ -62,21 +62,55 @@ other_free bank s t e hs ht apart ending =
     differ _ _ (λ same. let name = name_is s t e ending hs ht (tail_is _ _ _ _ (append_cancel_left bank _ _ same)) in true≢false (sym ((bytes_eq-Decides s t).1 name) ∙ apart))
 
 -- two files of one sample
-pub endings_differ : (bank sample e f : List ℕ) → (e ≡ f → ⊥) → bytes_eq (joined bank sample e) (joined bank sample f) ≡ false
+endings_differ : (bank sample e f : List ℕ) → bytes_eq e f ≡ false → bytes_eq (joined bank sample e) (joined bank sample f) ≡ false
 endings_differ bank sample e f other =
-    differ _ _ (λ same. other (append_cancel_left sample _ _ (tail_is _ _ _ _ (append_cancel_left bank _ _ same))))
+    differ _ _ (λ same. let one = append_cancel_left sample _ _ (tail_is _ _ _ _ (append_cancel_left bank _ _ same)) in true≢false (sym ((bytes_eq-Decides e f).1 one) ∙ other))
+
+-- endings that begin with a dot, of which no two are equal
+record AreEndings (endings : List (List ℕ)) : Type 0 where
+  dotted : AllByRecursion (λ e. (more : List ℕ) × (e ≡ 46 ∷ more)) endings
+  once : IsDistinct bytes_eq endings
+
+stored_are : (kind : Kind) → AreEndings (stored_endings kind)
+unfolding IsDistinct
+stored_are Brr = record { dotted = ((_, refl), tt); once = (tt, tt) }
+stored_are Spu = record { dotted = ((_, refl), ((_, refl), tt)); once = ((refl, tt), (tt, tt)) }
+stored_are Ima = record { dotted = ((_, refl), ((_, refl), tt)); once = ((refl, tt), (tt, tt)) }
+
+reserved_are : (kind : Kind) → AreEndings (reserved_endings kind)
+unfolding IsDistinct
+reserved_are Brr = record { dotted = ((_, refl), ((_, refl), tt)); once = ((refl, tt), (tt, tt)) }
+reserved_are Spu = record { dotted = ((_, refl), ((_, refl), ((_, refl), tt))); once = ((refl, (refl, tt)), ((refl, tt), (tt, tt))) }
+reserved_are Ima = record { dotted = ((_, refl), ((_, refl), ((_, refl), tt))); once = ((refl, (refl, tt)), ((refl, tt), (tt, tt))) }
+
+-- what holds of all elements of two lists
+both : {X : Type 0} (P : X → Type 0) (xs ys : List X) → AllByRecursion P xs → AllByRecursion P ys → AllByRecursion P (xs ++ ys)
+both P [] ys h k = k
+both P (x ∷ xs) ys h k = (h.0, both P xs ys h.1 k)
+
+-- two lists of names, of which none of the one stands in the other
+distinct_both : (xs ys : List (List ℕ)) → IsDistinct bytes_eq xs → IsDistinct bytes_eq ys → AllByRecursion (λ x. AllByRecursion (λ y. bytes_eq x y ≡ false) ys) xs → IsDistinct bytes_eq (xs ++ ys)
+unfolding IsDistinct
+distinct_both [] ys h k apart = k
+distinct_both (x ∷ xs) ys h k apart = (both (λ y. bytes_eq x y ≡ false) xs ys h.0 apart.0, distinct_both xs ys h.1 k apart.1)
 
 -- the files of the samples, in store order
-abbrev files : Kind → List ℕ → List SampleEntry → List (List ℕ)
-files kind bank samples = flat_map (λ s. sample_names kind bank s.name) samples
+abbrev files : List (List ℕ) → List ℕ → List SampleEntry → List (List ℕ)
+files endings bank samples = flat_map (λ s. map (joined bank s.name) endings) samples
+
+-- a name that is free of a sample is none of its files
+free_of_one : (endings : List (List ℕ)) (bank file sample : List ℕ) → AllByRecursion (λ e. (more : List ℕ) × (e ≡ 46 ∷ more)) endings → IsFree bank file sample
+    → AllByRecursion (λ name. bytes_eq file name ≡ false) (map (joined bank sample) endings)
+free_of_one [] bank file sample dotted free = tt
+free_of_one (e ∷ endings) bank file sample dotted free =
+    (subst (λ (x : List ℕ). bytes_eq file (joined bank sample x) ≡ false) (sym dotted.0.1) (free dotted.0.0), free_of_one endings bank file sample dotted.1 free)
 
 -- a name that is free of each sample is none of the files
-free_of_all : (kind : Kind) (bank file : List ℕ) (samples : List SampleEntry) → AllByRecursion (λ s. IsFree bank file s.name) samples
-    → AllByRecursion (λ name. bytes_eq file name ≡ false) (files kind bank samples)
-free_of_all kind bank file [] h = tt
-free_of_all Brr bank file (s ∷ samples) h = (h.0 _, (h.0 _, free_of_all Brr bank file samples h.1))
-free_of_all Spu bank file (s ∷ samples) h = (h.0 _, (h.0 _, (h.0 _, free_of_all Spu bank file samples h.1)))
-free_of_all Ima bank file (s ∷ samples) h = (h.0 _, (h.0 _, (h.0 _, free_of_all Ima bank file samples h.1)))
+free_of_all : (endings : List (List ℕ)) (bank file : List ℕ) (samples : List SampleEntry) → AreEndings endings → AllByRecursion (λ s. IsFree bank file s.name) samples
+    → AllByRecursion (λ name. bytes_eq file name ≡ false) (files endings bank samples)
+free_of_all endings bank file [] are h = tt
+free_of_all endings bank file (s ∷ samples) are h =
+    both (λ name. bytes_eq file name ≡ false) (map (joined bank s.name) endings) (files endings bank samples) (free_of_one endings bank file s.name are.dotted h.0) (free_of_all endings bank file samples are h.1)
 
 -- a file of a sample is free of all samples of other names
 others_free : (bank s e : List ℕ) (samples : List SampleEntry) → list_all is_name_byte s ≡ true → AllByRecursion (λ t. list_all is_name_byte t.name ≡ true) samples
@@ -84,33 +118,40 @@ others_free : (bank s e : List ℕ) (samples : List SampleEntry) → list_all is
 others_free bank s e [] hs named apart = tt
 others_free bank s e (t ∷ samples) hs named apart = (other_free bank s t.name e hs named.0 apart.0, others_free bank s e samples hs named.1 apart.1)
 
+-- so none of its files is one of theirs
+own_free : (own endings : List (List ℕ)) (bank s : List ℕ) (samples : List SampleEntry) → AllByRecursion (λ e. (more : List ℕ) × (e ≡ 46 ∷ more)) own → AreEndings endings
+    → list_all is_name_byte s ≡ true → AllByRecursion (λ t. list_all is_name_byte t.name ≡ true) samples → AllByRecursion (λ name. bytes_eq s name ≡ false) (map (λ t. t.name) samples)
+    → AllByRecursion (λ x. AllByRecursion (λ y. bytes_eq x y ≡ false) (files endings bank samples)) (map (joined bank s) own)
+own_free [] endings bank s samples dotted are hs named apart = tt
+own_free (e ∷ own) endings bank s samples dotted are hs named apart =
+    let free = free_of_all endings bank (joined bank s (46 ∷ dotted.0.0)) samples are (others_free bank s dotted.0.0 samples hs named apart) in (
+      subst (λ (x : List ℕ). AllByRecursion (λ y. bytes_eq (joined bank s x) y ≡ false) (files endings bank samples)) (sym dotted.0.1) free,
+      own_free own endings bank s samples dotted.1 are hs named apart,
+    )
+
+-- no two files of one sample have one name
+apart_from : (bank s e : List ℕ) (endings : List (List ℕ)) → AllByRecursion (λ f. bytes_eq e f ≡ false) endings → AllByRecursion (λ name. bytes_eq (joined bank s e) name ≡ false) (map (joined bank s) endings)
+apart_from bank s e [] h = tt
+apart_from bank s e (f ∷ endings) h = (endings_differ bank s e f h.0, apart_from bank s e endings h.1)
+
+own_distinct : (bank s : List ℕ) (endings : List (List ℕ)) → IsDistinct bytes_eq endings → IsDistinct bytes_eq (map (joined bank s) endings)
+unfolding IsDistinct
+own_distinct bank s [] h = tt
+own_distinct bank s (e ∷ endings) h = (apart_from bank s e endings h.0, own_distinct bank s endings h.1)
+
 -- the image is free of all samples
 images_free : (bank : List ℕ) (samples : List SampleEntry) → AllByRecursion (λ t. IsFree bank bank t.name) samples
 images_free bank [] = tt
 images_free bank (t ∷ samples) = (image_free bank t.name, images_free bank samples)
 
 -- no two files of samples have one name
-files_distinct : (kind : Kind) (bank : List ℕ) (samples : List SampleEntry) → AllByRecursion (λ t. list_all is_name_byte t.name ≡ true) samples → AreDistinct samples → IsDistinct bytes_eq (files kind bank samples)
+files_distinct : (endings : List (List ℕ)) (bank : List ℕ) (samples : List SampleEntry) → AreEndings endings → AllByRecursion (λ t. list_all is_name_byte t.name ≡ true) samples → AreDistinct samples
+    → IsDistinct bytes_eq (files endings bank samples)
 unfolding IsDistinct
-files_distinct kind bank [] named apart = tt
-files_distinct Brr bank (s ∷ samples) named apart =
-    let free = λ (file : List ℕ). free_of_all Brr bank file samples in
-    let others = λ (e : List ℕ). others_free bank s.name e samples named.0 named.1 apart.0 in (
-      (endings_differ bank s.name _ _ (λ e. cc), free _ (others _)),
-      (free _ (others _), files_distinct Brr bank samples named.1 apart.1),
-    )
-files_distinct Spu bank (s ∷ samples) named apart =
-    let free = λ (file : List ℕ). free_of_all Spu bank file samples in
-    let others = λ (e : List ℕ). others_free bank s.name e samples named.0 named.1 apart.0 in (
-      (endings_differ bank s.name _ _ (λ e. cc), (endings_differ bank s.name _ _ (λ e. cc), free _ (others _))),
-      ((endings_differ bank s.name _ _ (λ e. cc), free _ (others _)), (free _ (others _), files_distinct Spu bank samples named.1 apart.1)),
-    )
-files_distinct Ima bank (s ∷ samples) named apart =
-    let free = λ (file : List ℕ). free_of_all Ima bank file samples in
-    let others = λ (e : List ℕ). others_free bank s.name e samples named.0 named.1 apart.0 in (
-      (endings_differ bank s.name _ _ (λ e. cc), (endings_differ bank s.name _ _ (λ e. cc), free _ (others _))),
-      ((endings_differ bank s.name _ _ (λ e. cc), free _ (others _)), (free _ (others _), files_distinct Ima bank samples named.1 apart.1)),
-    )
+files_distinct endings bank [] are named apart = tt
+files_distinct endings bank (s ∷ samples) are named apart =
+    distinct_both (map (joined bank s.name) endings) (files endings bank samples) (own_distinct bank s.name endings are.once) (files_distinct endings bank samples are named.1 apart.1)
+    (own_free endings endings bank s.name samples are.dotted are named.0 named.1 apart.0)
 
 -- the bytes of a sample's name
 only_name_bytes : (name : List ℕ) → is_name name ≡ true → list_all is_name_byte name ≡ true
@@ -122,10 +163,18 @@ all_named : (samples : List SampleEntry) → AllByRecursion IsEntry samples → 
 all_named [] h = tt
 all_named (s ∷ samples) h = (only_name_bytes s.name h.0.name, all_named samples h.1)
 
+names_once : (endings : List (List ℕ)) (kind : Kind) (bank : List ℕ) (samples : List SampleEntry) → AreEndings endings → AllByRecursion (λ t. list_all is_name_byte t.name ≡ true) samples → AreDistinct samples
+    → IsDistinct bytes_eq (names_with endings kind bank samples)
+unfolding IsDistinct
+names_once endings Brr bank samples are named apart = (free_of_all endings bank bank samples are (images_free bank samples), files_distinct endings bank samples are named apart)
+names_once endings Spu bank samples are named apart = files_distinct endings bank samples are named apart
+names_once endings Ima bank samples are named apart = files_distinct endings bank samples are named apart
+
 -- where no two samples have one name, no two files of the bank have one
-pub stored_once : (kind : Kind) (bank : List ℕ) (samples : List SampleEntry) → All IsEntry samples → AreDistinct samples → IsDistinct bytes_eq (stored_names kind bank samples)
-unfolding stored_names IsDistinct
-stored_once Brr bank samples named apart =
-    (free_of_all Brr bank bank samples (images_free bank samples), files_distinct Brr bank samples (all_named samples (recursion_from_All IsEntry samples named)) apart)
-stored_once Spu bank samples named apart = files_distinct Spu bank samples (all_named samples (recursion_from_All IsEntry samples named)) apart
-stored_once Ima bank samples named apart = files_distinct Ima bank samples (all_named samples (recursion_from_All IsEntry samples named)) apart
+pub stores_once : (kind : Kind) (bank : List ℕ) (samples : List SampleEntry) → All IsEntry samples → AreDistinct samples → StoresOnce kind bank samples
+unfolding stored_names reserved_names
+stores_once kind bank samples entries apart =
+    let named = all_named samples (recursion_from_All IsEntry samples entries) in record {
+      stored = names_once (stored_endings kind) kind bank samples (stored_are kind) named apart;
+      reserved = names_once (reserved_endings kind) kind bank samples (reserved_are kind) named apart;
+    }

@@ -1,8 +1,6 @@
 ghost use Rattle.std.specs.Prelude.{IfOk};
-ghost use Rattle.std.specs.List.{IsDistinct};
-ghost use Rattle.std.specs.Str.{bytes_eq};
-ghost use Rattle.manifest_reader.specs.Ranges.{InRanges, AreDistinct, IsApart};
-ghost use Rattle.manifest_reader.specs.Stored.{stored_names};
+ghost use Rattle.manifest_reader.specs.Ranges.{InRanges, AreDistinct, StoresOnce, IsApart};
+ghost use Rattle.manifest_reader.specs.Stored.{reserved_names};
 ghost use Rattle.toml.specs.View.{table_view};
 ghost use Rattle.adpcm_nums.specs.Outcome.{Gives};
 ghost use Rattle.manifest_reader.specs.Meaning.{content_of, manifest_at, document_of, manifest_of};
@@ -20,8 +18,8 @@ use toml::Table;
 fn manifest_at(alloc: Global, table: &Table, own: &str) -> Result<Manifest, ManifestFault>
     ensures ranges { IfOk result (λ m. InRanges (content_of m)) }
     ensures distinct { IfOk result (λ m. AreDistinct m.samples.items) }
-    ensures once { IfOk result (λ m. IsDistinct bytes_eq (stored_names m.kind m.bank m.samples.items)) }
-    ensures apart { IfOk result (λ m. IsApart (stored_names m.kind m.bank m.samples.items) m.samples.items own.now) }
+    ensures once { IfOk result (λ m. StoresOnce m.kind m.bank m.samples.items) }
+    ensures apart { IfOk result (λ m. IsApart (reserved_names m.kind m.bank m.samples.items) m.samples.items own.now) }
     ensures value { Gives ManifestFault.NoMemory content_of result (manifest_at (table_view table.now) own.now) }
 {
     check_keys(
@@ -80,8 +78,8 @@ fn document_of(alloc: Global, bytes: &[u8]) -> Result<Table, ManifestFault>
 pub fn read_manifest(alloc: Global, bytes: &[u8], own: &str) -> Result<Manifest, ManifestFault>
     ensures ranges { IfOk result (λ m. InRanges (content_of m)) }
     ensures distinct { IfOk result (λ m. AreDistinct m.samples.items) }
-    ensures once { IfOk result (λ m. IsDistinct bytes_eq (stored_names m.kind m.bank m.samples.items)) }
-    ensures apart { IfOk result (λ m. IsApart (stored_names m.kind m.bank m.samples.items) m.samples.items own.now) }
+    ensures once { IfOk result (λ m. StoresOnce m.kind m.bank m.samples.items) }
+    ensures apart { IfOk result (λ m. IsApart (reserved_names m.kind m.bank m.samples.items) m.samples.items own.now) }
     ensures value { Gives ManifestFault.NoMemory content_of result (manifest_of bytes.now own.now) }
 {
     if 65536 < bytes.len() {

@@ -1,5 +1,5 @@
-ghost use Rattle.std.specs.Prelude.{◌≡◌, ◌++◌, ◌∷◌, [], IfOk};
-ghost use Rattle.manifest_reader.specs.Stored.{joined, vag_of, ima_of, first_pass_of, certificate_of, sample_names, stored_names};
+ghost use Rattle.std.specs.Prelude.{◌≡◌, ◌++◌, ◌∷◌, [], map, IfOk};
+ghost use Rattle.manifest_reader.specs.Stored.{joined, first_pass_of, blocks_endings, reserved_endings, reserved_names};
 
 use crate::manifest::SampleEntry;
 use adpcm_nums::{NoMemory, Text};
@@ -16,20 +16,6 @@ fn joined(alloc: Global, bank: &str, sample: &str, ending: &str) -> Result<Text,
     }
 }
 
-/// The name of the VAG file that holds a sample's blocks in SPU-ADPCM: `BANK.SAMPLE.vag` (this project's own choice).
-pub fn vag_name(alloc: Global, bank: &str, sample: &str) -> Result<Text, NoMemory>
-    ensures { IfOk result (λ name. name ≡ vag_of bank.now sample.now) }
-{
-    joined(alloc, bank, sample, ".vag")
-}
-
-/// The name of the WAVE file that holds a sample's blocks in IMA ADPCM: `BANK.SAMPLE.wav` (this project's own choice).
-pub fn ima_name(alloc: Global, bank: &str, sample: &str) -> Result<Text, NoMemory>
-    ensures { IfOk result (λ name. name ≡ ima_of bank.now sample.now) }
-{
-    joined(alloc, bank, sample, ".wav")
-}
-
 /// The name of the WAVE file of a sample as a player gives it, up to the end of its loop's first round:
 /// `BANK.SAMPLE.first.wav` (this project's own choice).
 pub fn first_pass_name(alloc: Global, bank: &str, sample: &str) -> Result<Text, NoMemory>
@@ -38,24 +24,42 @@ pub fn first_pass_name(alloc: Global, bank: &str, sample: &str) -> Result<Text, 
     joined(alloc, bank, sample, ".first.wav")
 }
 
-/// The name of a sample's certificate: `BANK.SAMPLE.cert` (this project's own choice).
-pub fn certificate_name(alloc: Global, bank: &str, sample: &str) -> Result<Text, NoMemory>
-    ensures { IfOk result (λ name. name ≡ certificate_of bank.now sample.now) }
+/// Adds the name of a file of a sample.
+fn push_name(
+    alloc: Global,
+    names: &mut Vec<Text>,
+    bank: &str,
+    sample: &str,
+    ending: &str,
+) -> Result<(), NoMemory>
+    ensures { IfOk result (λ _. names.new.items ≡ names.old.items ++ joined bank.now sample.now ending.now ∷ []) }
 {
-    joined(alloc, bank, sample, ".cert")
-}
-
-/// Adds a name.
-fn push_name(names: &mut Vec<Text>, name: Text) -> Result<(), NoMemory>
-    ensures { IfOk result (λ _. names.new.items ≡ names.old.items ++ name ∷ []) }
-{
-    match names.push(name) {
+    match names.push(joined(alloc, bank, sample, ending)?) {
         Ok(()) => Ok(()),
         Err(_) => Err(NoMemory),
     }
 }
 
-/// Adds the names of the files of a sample, in store order.
+/// Adds the name of the file that holds the blocks of a sample alone, where there is one: `BANK.SAMPLE.vag` or
+/// `BANK.SAMPLE.wav` (this project's own choice).
+fn push_blocks_name(
+    alloc: Global,
+    names: &mut Vec<Text>,
+    kind: Kind,
+    bank: &str,
+    sample: &str,
+) -> Result<(), NoMemory>
+    ensures { IfOk result (λ _. names.new.items ≡ names.old.items ++ map (joined bank.now sample.now) (blocks_endings kind)) }
+{
+    match kind {
+        Kind::Brr => Ok(()),
+        Kind::Spu => push_name(alloc, names, bank, sample, ".vag"),
+        Kind::Ima => push_name(alloc, names, bank, sample, ".wav"),
+    }
+}
+
+/// Adds the names of the files of a sample, in store order: of its blocks, of its first pass, `BANK.SAMPLE.first.wav`, and
+/// of its certificate, `BANK.SAMPLE.cert` (this project's own choice).
 fn push_names(
     alloc: Global,
     names: &mut Vec<Text>,
@@ -63,31 +67,32 @@ fn push_names(
     bank: &str,
     sample: &str,
 ) -> Result<(), NoMemory>
-    ensures { IfOk result (λ _. names.new.items ≡ names.old.items ++ sample_names kind bank.now sample.now) }
+    ensures { IfOk result (λ _. names.new.items ≡ names.old.items ++ map (joined bank.now sample.now) (reserved_endings kind)) }
 {
-    match kind {
-        Kind::Brr => {}
-        Kind::Spu => push_name(names, vag_name(alloc, bank, sample)?)?,
-        Kind::Ima => push_name(names, ima_name(alloc, bank, sample)?)?,
-    }
-    push_name(names, first_pass_name(alloc, bank, sample)?)?;
-    push_name(names, certificate_name(alloc, bank, sample)?)
+    push_blocks_name(alloc, names, kind, bank, sample)?;
+    push_name(alloc, names, bank, sample, ".first.wav")?;
+    push_name(alloc, names, bank, sample, ".cert")?;
+    Ok(())
 }
 
-/// The names of all files under which a bank is stored, in store order: the SNES image where there is one, which has
-/// the bank's name, and then for each sample its own blocks where they have a file, its first pass and its certificate.
-#[tactic(auto, unfolding(crate::specs::Stored::stored_names))]
-pub fn stored_names(
+/// The names of all files of a bank, in store order: the SNES image where there is one, which has the bank's name, and
+/// then for each sample its own blocks where they have a file, its first pass and its certificate. A certificate is not
+/// stored so far, but its name is kept free.
+#[tactic(auto, unfolding(crate::specs::Stored::reserved_names))]
+pub fn reserved_names(
     alloc: Global,
     kind: Kind,
     bank: &str,
     samples: &[SampleEntry],
 ) -> Result<Vec<Text>, NoMemory>
-    ensures { IfOk result (λ names. names.items ≡ stored_names kind bank.now samples.now) }
+    ensures { IfOk result (λ names. names.items ≡ reserved_names kind bank.now samples.now) }
 {
     let mut names = Vec::new(alloc);
     if kind == Kind::Brr {
-        push_name(&mut names, Text::copy_of(alloc, bank)?)?;
+        match names.push(Text::copy_of(alloc, bank)?) {
+            Ok(()) => {}
+            Err(_) => return Err(NoMemory),
+        }
     }
     for sample in samples {
         push_names(alloc, &mut names, kind, bank, sample.name.as_str())?;

@@ -1,5 +1,5 @@
 use super::KEYS;
-use crate::{read_manifest, stored_names};
+use crate::{read_manifest, reserved_names};
 use machine_core::Kind;
 use std::test::Fail;
 
@@ -39,7 +39,7 @@ fn reads_manifests(rt: HostRuntime) -> Result<(), Fail> {
 }
 
 #[test]
-fn names_the_stored_files(rt: HostRuntime) -> Result<(), Fail> {
+fn names_the_files_of_a_bank(rt: HostRuntime) -> Result<(), Fail> {
     let alloc = rt.alloc();
     let example = read_manifest(alloc, EXAMPLE.as_bytes(), "m.toml")?;
     for (kind, want) in [
@@ -57,7 +57,7 @@ fn names_the_stored_files(rt: HostRuntime) -> Result<(), Fail> {
         ),
     ] {
         let mut all = String::new(alloc);
-        for name in &stored_names(alloc, kind, "x", example.samples.as_slice())? {
+        for name in &reserved_names(alloc, kind, "x", example.samples.as_slice())? {
             all.push_str(name.as_str())?;
             all.push_str(" ")?;
         }

@@ -1,4 +1,5 @@
 use Rattle.std.proofs.Common.{arith, length, nat_lt, if◌then◌else◌}
+use Rattle.std.proofs.lemmas.Result.{err_from_is_err_and}
 use Rattle.host_files.specs.Outside.{content_of}
 use Rattle.command_plan.specs.declared.status.Status.TheVariants.{Done, Input}
 use Rattle.command_plan.specs.Reading.{fetched, decided}
@@ -7,20 +8,22 @@ use Rattle.command_plan.proofs.Readings.{halts_first}
 use Rattle.command_plan.proofs.Tests.{too_long, is_read}
 use Rattle.command_plan.proofs.fetch.fetch_whole.Goals as goal
 
-pub returns-in-Err-clause-told : goal.returns-in-Err-clause-told
-returns-in-Err-clause-told g c = λ files told.
+pub returns-in_err-bytes-clause-told : goal.returns-in_err-bytes-clause-told
+returns-in_err-bytes-clause-told g c = λ files told.
+    let p = err_from_is_err_and c.from_residual.result c.from_residual.ensures.1 in
+    rw (p.1, p.2) (
     halts_first (fetched c.args.name.now) (decided (if nat_lt c.args.most (length (content_of files c.args.name.now)) then Input c.args.name.now c.args.too_long else Done))
-    (g.H.Host.world c.args.host.now) (g.H.Host.world c.fetch_front.new.host) c.in-Err.status (c.in-Err.ensures.told files told)
+    (g.H.Host.world c.args.host.now) (g.H.Host.world c.fetch_front.new.host) c.in_err-bytes.field-0.0 (c.in_err-bytes.ensures.told files told))
 
 pub returns-then-len-most-clause-told : goal.returns-then-len-most-clause-told
 returns-then-len-most-clause-told g c = λ files told.
-    let got = c.in-Ok.ensures.told files told in
-    too_long files c.args.name.now c.in-Ok.bytes.items c.args.most c.args.too_long _ (g.H.Host.world c.args.host.now) (g.H.Host.world c.fetch_front.new.host)
+    let got = c.in_ok-bytes.ensures.told files told in
+    too_long files c.args.name.now c.in_ok-bytes.bytes.items c.args.most c.args.too_long _ (g.H.Host.world c.args.host.now) (g.H.Host.world c.fetch_front.new.host)
     got.0.quiet got.1 (omega arith) c.input_refused.ensures
 
 pub returns-clause-told : goal.returns-clause-told
 returns-clause-told g c = λ files told.
-    let got = c.in-Ok.ensures.told files told in (
-      is_read files c.args.name.now c.in-Ok.bytes.items c.args.most c.args.too_long (g.H.Host.world c.args.host.now) (g.H.Host.world c.fetch_front.new.host) got.0.quiet got.1 (omega arith),
+    let got = c.in_ok-bytes.ensures.told files told in (
+      is_read files c.args.name.now c.in_ok-bytes.bytes.items c.args.most c.args.too_long (g.H.Host.world c.args.host.now) (g.H.Host.world c.fetch_front.new.host) got.0.quiet got.1 (omega arith),
       whole c.args.most _ _ got.1 (omega arith),
     )

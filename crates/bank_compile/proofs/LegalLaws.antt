@@ -1,5 +1,5 @@
 -- The beam's list of blocks is legal.
-use Rattle.std.proofs.Common.{◌≡◌, ℕ, zero, suc, ◌+◌, ◌*◌, ◌/◌, ◌%◌, ◌<◌, sym, subst, arith, inl, inr, ℤ, IsTrue, List, Option}
+use Rattle.std.proofs.Common.{Bool, ◌≡◌, ℕ, zero, suc, ◌+◌, ◌*◌, ◌/◌, ◌%◌, ◌<◌, sym, subst, arith, inl, inr, ℤ, IsTrue, List}
 use Rattle.std.proofs.lemmas.Bool.{cond-true, cond-false, cases_Bool}
 use Rattle.std.proofs.lemmas.List.Elements.{All-take, All-drop}
 use Rattle.std.proofs.lemmas.List.FromFn.{length-map-range_with_len}
@@ -58,28 +58,32 @@ best_head-allowed r laws rule block from b at =
     ]
 
 -- the state before each block is a state
-pub beam_state-fits : (r : Rules) → IsMachine r → (loop_block : Option ℕ) (targets : List ℤ) (b : ℕ) → IsTrue (r.decoder.is_state (beam_state r.decoder loop_block targets b))
+pub beam_state-fits : (r : Rules) → IsMachine r → (fixed : ℕ → Bool) (targets : List ℤ) (b : ℕ) → IsTrue (r.decoder.is_state (beam_state r.decoder fixed targets b))
 unfolding beam_state
-beam_state-fits r laws loop_block targets zero = laws.start_fits
-beam_state-fits r laws loop_block targets (suc b) =
-    near_state-fits r laws _ (targets_in r.decoder targets b) (beam_state r.decoder loop_block targets b) r.decoder.samples
-    (best_head-fits r laws (rule_of loop_block b) (targets_in r.decoder targets b) (beam_state r.decoder loop_block targets b)) (omega arith) (beam_state-fits r laws loop_block targets b)
+beam_state-fits r laws fixed targets zero = laws.start_fits
+beam_state-fits r laws fixed targets (suc b) =
+    near_state-fits r laws _ (targets_in r.decoder targets b) (beam_state r.decoder fixed targets b) r.decoder.samples
+    (best_head-fits r laws (rule_of fixed b) (targets_in r.decoder targets b) (beam_state r.decoder fixed targets b)) (omega arith) (beam_state-fits r laws fixed targets b)
 
 -- so the beam's list is legal
-pub beam_list-legal : (r : Rules) → IsMachine r → (loop_block : Option ℕ) (targets : List ℤ) (blocks : ℕ) → AreTargets r.decoder blocks targets
-    → IsLegal r.decoder blocks loop_block (beam_list r.decoder loop_block targets blocks)
+pub beam_list-legal : (r : Rules) → IsMachine r → (fixed : ℕ → Bool) (targets : List ℤ) (blocks : ℕ) → AreTargets r.decoder blocks targets
+    → IsLegal r.decoder blocks fixed (beam_list r.decoder fixed targets blocks)
 unfolding beam_list beam_head beam_symbol near_symbol
-beam_list-legal r laws loop_block targets blocks are = record {
-  head_count = length-map-range_with_len (beam_head r.decoder loop_block targets) 0 blocks;
-  symbol_count = length-map-range_with_len _ 0 (blocks * r.decoder.samples);
-  heads_fit = λ b below. subst (λ (z : ℕ). z < r.decoder.heads) (sym (head-in r.decoder loop_block targets blocks b below)) (best_head-fits r laws _ _ _);
-  heads_allowed = λ b below.
-      subst (λ (z : ℕ). IsTrue (r.decoder.allows z (rule_of loop_block b))) (sym (head-in r.decoder loop_block targets blocks b below))
-      (best_head-allowed r laws (rule_of loop_block b) (targets_in r.decoder targets b) (beam_state r.decoder loop_block targets b) (block-is r.decoder targets blocks b are below) (beam_state-fits r laws loop_block targets b));
-  symbols_fit = λ i within.
-      (let below = block-below i r.decoder.samples blocks within in
-      let at = mod-lt i laws.some_samples in
-      let e : i ≡ i / r.decoder.samples * r.decoder.samples + i % r.decoder.samples = sym (div-add-mod' i r.decoder.samples) in
-      subst (λ (z : ℕ). z < r.decoder.symbols (i % r.decoder.samples)) (sym (symbol-in r.decoder loop_block targets blocks (i / r.decoder.samples) (i % r.decoder.samples) i e below at))
-      (nearest-fits r laws _ (i % r.decoder.samples) _ _ at));
+beam_list-legal r laws fixed targets blocks are = record {
+  in_range = record {
+    head_count = length-map-range_with_len (beam_head r.decoder fixed targets) 0 blocks;
+    symbol_count = length-map-range_with_len _ 0 (blocks * r.decoder.samples);
+    heads_fit = λ b below. subst (λ (z : ℕ). z < r.decoder.heads) (sym (head-in r.decoder fixed targets blocks b below)) (best_head-fits r laws _ _ _);
+    symbols_fit = λ i within.
+        (let below = block-below i r.decoder.samples blocks within in
+        let at = mod-lt i laws.some_samples in
+        let e : i ≡ i / r.decoder.samples * r.decoder.samples + i % r.decoder.samples = sym (div-add-mod' i r.decoder.samples) in
+        subst (λ (z : ℕ). z < r.decoder.symbols (i % r.decoder.samples)) (sym (symbol-in r.decoder fixed targets blocks (i / r.decoder.samples) (i % r.decoder.samples) i e below at))
+        (nearest-fits r laws _ (i % r.decoder.samples) _ _ at));
+  };
+  obeys = record {
+    allowed = λ b below.
+        subst (λ (z : ℕ). IsTrue (r.decoder.allows z (rule_of fixed b))) (sym (head-in r.decoder fixed targets blocks b below))
+        (best_head-allowed r laws (rule_of fixed b) (targets_in r.decoder targets b) (beam_state r.decoder fixed targets b) (block-is r.decoder targets blocks b are below) (beam_state-fits r laws fixed targets b));
+  };
 }

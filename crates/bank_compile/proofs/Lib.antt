@@ -6,6 +6,6 @@ pub mod Growth
 pub mod OutputLaws
 pub mod OutLaws
 pub mod SoundLaws
-pub mod Spelled
+pub mod StoredLaws
 pub mod Replaying
 pub mod FittedLaws

@@ -1,5 +1,5 @@
 -- Laws of a block each of whose symbols is the nearest.
-use Rattle.std.proofs.Common.{◌≡◌, ◌++◌, ◌∷◌, [], map, append_assoc, ℕ, zero, suc, ◌+◌, ◌*◌, ◌^◌, ◌<◌, ◌≤◌, ℤ, pos, IsTrue, List, get_or, refl, ap, add-one, arith, inl, inr}
+use Rattle.std.proofs.Common.{◌≡◌, ◌++◌, ◌∷◌, [], map, append_assoc, ℕ, zero, suc, ◌+◌, ◌*◌, ◌^◌, ◌<◌, ◌≤◌, ℤ, pos, IsTrue, List, get_or, refl, ap, sym, ◌∙◌, subst, add-one, arith, inl, inr}
 use Rattle.std.proofs.Common.{to_z, of_z}
 use Rattle.std.proofs.lemmas.Bool.{cases_lt, cond_both}
 use Rattle.std.proofs.lemmas.Int.{ints}
@@ -13,7 +13,8 @@ use Rattle.adpcm_nums.proofs.LeastLaws.{first_least-is}
 use Rattle.machine_core.specs.declared.state.State.{State}
 use Rattle.machine_core.specs.declared.state.HeadRule.{HeadRule}
 use Rattle.machine_core.specs.Decoder.{Decoder, cost_of}
-use Rattle.machine_core.specs.Nearest.{symbol_cost, nearest_symbol}
+use Rattle.machine_core.specs.declared.taken.Taken.{Taken}
+use Rattle.machine_core.specs.Nearest.{symbol_cost, nearest_symbol, taken}
 use Rattle.machine_core.specs.Rules.{Rules, IsMachine}
 use Rattle.machine_core.specs.Floors.{top}
 use Rattle.bank_compile.specs.Beam.{IsBlock, near_state, near_symbol, near_sum, head_sum}
@@ -33,6 +34,20 @@ pub nearest-fits : (r : Rules) → IsMachine r → (head p : ℕ) (at : State) (
     → nearest_symbol r.decoder head p at target < r.decoder.symbols p
 nearest-fits r laws head p at target within =
     first_least-within (symbol_cost r.decoder head p at target) (r.decoder.symbols p) (laws.some_symbols p within)
+
+-- what is taken leads on by the decoder's step
+pub taken_steps : (d : Decoder) (head p : ℕ) (from : State) (target : ℤ) (t : Taken) → t ≡ taken d head p from target → t.state ≡ d.step head p t.symbol from
+taken_steps d head p from target t e = ap (λ (t : Taken). t.state) e ∙ ap (λ s. d.step head p s from) (sym (ap (λ (t : Taken). t.symbol) e))
+
+-- at the cost of the state after it
+pub taken_costs : (d : Decoder) (head p : ℕ) (from : State) (target : ℤ) (t : Taken) → t ≡ taken d head p from target → t.cost ≡ cost_of d t.state target
+taken_costs d head p from target t e = ap (λ (t : Taken). t.cost) e ∙ ap (λ s. cost_of d s target) (sym (ap (λ (t : Taken). t.state) e))
+
+-- which is a state
+pub taken_fits : (r : Rules) → IsMachine r → (head p : ℕ) (from : State) (target : ℤ) (t : Taken) → t ≡ taken r.decoder head p from target
+    → head < r.decoder.heads → p < r.decoder.samples → IsTrue (r.decoder.is_state from) → IsTrue (r.decoder.is_state t.state)
+taken_fits r laws head p from target t e head_fits within at =
+    subst (λ (s : State). IsTrue (r.decoder.is_state s)) (sym (ap (λ (t : Taken). t.state) e)) (laws.steps head p _ from head_fits within (nearest-fits r laws head p from target within) at)
 
 -- the states of a block are states
 pub near_state-fits : (r : Rules) → IsMachine r → (head : ℕ) (block : List ℤ) (from : State) (p : ℕ) → head < r.decoder.heads

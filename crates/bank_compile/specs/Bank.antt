@@ -1,34 +1,35 @@
 -- The files of a bank.
-use Rattle.std.specs.Prelude.{◌≡◌, ◌≤◌, ℕ, ◌+◌, ◌*◌, nat_lt, if◌then◌else◌, ℤ, List, ◌∷◌, length, map, Option, Some, None, Result, Ok, Err}
+use Rattle.std.specs.Prelude.{◌≡◌, ◌≤◌, ℕ, ◌*◌, ℤ, List, ◌∷◌, length, map, Option, Some, None, Result, Ok}
 use Rattle.std.specs.List.{sum_by}
 use Rattle.adpcm_nums.specs.Outcome.{◌>>=◌}
 use Rattle.adpcm_nums.specs.declared.loop_at.LoopAt.{LoopAt}
 use Rattle.adpcm_nums.specs.Sample.{AreSamples}
 use Rattle.host_files.specs.declared.named_file.NamedFile.{NamedFile}
-use Rattle.machine_core.specs.Blocks.{Blocks, IsLegal}
-use Rattle.brr_machine.specs.Brr.{brr}
+use Rattle.machine_core.specs.Blocks.{Blocks, IsInRange}
 use Rattle.loop_fit.specs.Fit.{points_of}
 use Rattle.manifest_reader.specs.Stored.{first_pass_of}
 use Rattle.wave_form.specs.Written.{wave_file, wave_loop_file}
 use Rattle.snes_directory.specs.declared.part.ImagePart.{ImagePart}
 use Rattle.snes_directory.specs.declared.fault.LayFault.{LayFault}
-use Rattle.snes_directory.specs.declared.fault.LayFault.TheVariants.{ImageFull}
+use Rattle.snes_directory.specs.Layout.{end_of}
 use Rattle.snes_directory.specs.Spelling.{image_file}
 use Rattle.bank_compile.specs.declared.sample.SampleOut.{SampleOut}
-use Rattle.bank_compile.specs.Sample.{IsBrrFit, bytes_of}
+use Rattle.bank_compile.specs.Codec.{Codec}
+use Rattle.bank_compile.specs.Kinds.{brr_codec}
+use Rattle.bank_compile.specs.Sample.{IsFit, bytes_of}
 
 -- a compiled sample that can stand in a bank, whatever list its blocks spell
-pub record IsOut (out : SampleOut) : Type 0 where
+pub record IsOut (c : Codec) (out : SampleOut) : Type 0 where
   pub some_rate : 1 ≤ out.rate
   pub high_rate : out.rate ≤ 1000000
-  pub fit : IsBrrFit out.fitted
+  pub fit : IsFit c out.fitted
   -- an output for each sample of its blocks
-  pub played : length out.first ≡ out.fitted.blocks * 16
+  pub played : length out.first ≡ out.fitted.blocks * c.rules.decoder.samples
   pub range : AreSamples out.first
   -- the list that its blocks spell
   pub list : Blocks
-  pub legal : IsLegal brr out.fitted.blocks out.fitted.loop_block list
-  pub spelled : out.blocks ≡ bytes_of out.fitted list
+  pub in_range : IsInRange c.rules.decoder out.fitted.blocks list
+  pub spelled : out.blocks ≡ bytes_of c out.fitted list
 
 -- the sample as it lies in the image
 abbrev pub part_of : SampleOut → ImagePart
@@ -40,20 +41,18 @@ sound_file rate samples None = wave_file rate samples
 sound_file rate samples (Some at) = wave_loop_file rate samples at
 
 -- the file of a sample's first pass
-abbrev pub first_file : List ℕ → SampleOut → NamedFile
-first_file bank out = record { name = first_pass_of bank out.name; bytes = sound_file out.rate out.first (points_of 16 out.fitted) }
+abbrev pub first_file : Codec → List ℕ → SampleOut → NamedFile
+first_file c bank out = record { name = first_pass_of bank out.name; bytes = sound_file out.rate out.first (points_of c.rules.decoder.samples out.fitted) }
+
+-- the image, unless the samples pass the end of the console's memory
+unfoldable pub image_of : ℕ → List SampleOut → Result (List ℕ) LayFault
+image_of base outs = do
+  total ← end_of base (length outs) (sum_by (λ out. out.fitted.blocks) outs)
+  Ok (image_file base (map part_of outs))
 
 -- the files in store order: the image under the bank's name, then each first pass
 abbrev pub bank_files : List ℕ → List ℕ → List SampleOut → List NamedFile
-bank_files bank image outs = record { name = bank; bytes = image } ∷ map (first_file bank) outs
-
--- the address behind the last sample
-abbrev pub end_address : ℕ → List SampleOut → ℕ
-end_address base outs = base + 4 * length outs + 9 * sum_by (λ out. out.fitted.blocks) outs
-
--- the image, unless the samples pass the console's memory of 65,536 bytes
-unfoldable pub image_of : ℕ → List SampleOut → Result (List ℕ) LayFault
-image_of base outs = if nat_lt 65536 (end_address base outs) then Err (ImageFull (end_address base outs)) else Ok (image_file base (map part_of outs))
+bank_files bank image outs = record { name = bank; bytes = image } ∷ map (first_file brr_codec bank) outs
 
 -- all files of a bank, or why there is none
 unfoldable pub bank_of : List ℕ → ℕ → List SampleOut → Result (List NamedFile) LayFault

@@ -1,5 +1,5 @@
 -- The beam of width 1: block after block, the head whose nearest symbols cost least, the first of several.
-use Rattle.std.specs.Prelude.{◌≡◌, ◌≤◌, ℕ, zero, suc, ◌+◌, ◌*◌, ◌/◌, ◌%◌, if◌then◌else◌, ℤ, pos, List, length, get_or, map, slice_range, Option}
+use Rattle.std.specs.Prelude.{Bool, ◌≡◌, ◌≤◌, ℕ, zero, suc, ◌+◌, ◌*◌, ◌/◌, ◌%◌, if◌then◌else◌, ℤ, pos, List, length, get_or, map, slice_range}
 use Rattle.std.specs.List.{range_with_len}
 use Rattle.adpcm_nums.specs.Least.{first_least}
 use Rattle.adpcm_nums.specs.Sample.{AreSamples}
@@ -50,24 +50,24 @@ abbrev pub targets_in : Decoder → List ℤ → ℕ → List ℤ
 targets_in d targets b = slice_range targets (b * d.samples) (b * d.samples + d.samples)
 
 -- the state before block b
-unfoldable pub beam_state : Decoder → Option ℕ → List ℤ → ℕ → State
-beam_state d loop_block targets zero = start
-beam_state d loop_block targets (suc b) =
-    near_state d (best_head d (rule_of loop_block b) (targets_in d targets b) (beam_state d loop_block targets b)) (targets_in d targets b)
-    (beam_state d loop_block targets b) d.samples
+unfoldable pub beam_state : Decoder → (ℕ → Bool) → List ℤ → ℕ → State
+beam_state d fixed targets zero = start
+beam_state d fixed targets (suc b) =
+    near_state d (best_head d (rule_of fixed b) (targets_in d targets b) (beam_state d fixed targets b)) (targets_in d targets b)
+    (beam_state d fixed targets b) d.samples
 
 -- the head of block b
-unfoldable pub beam_head : Decoder → Option ℕ → List ℤ → ℕ → ℕ
-beam_head d loop_block targets b = best_head d (rule_of loop_block b) (targets_in d targets b) (beam_state d loop_block targets b)
+unfoldable pub beam_head : Decoder → (ℕ → Bool) → List ℤ → ℕ → ℕ
+beam_head d fixed targets b = best_head d (rule_of fixed b) (targets_in d targets b) (beam_state d fixed targets b)
 
 -- the symbol at place p of block b
-unfoldable pub beam_symbol : Decoder → Option ℕ → List ℤ → ℕ → ℕ → ℕ
-beam_symbol d loop_block targets b p =
-    near_symbol d (beam_head d loop_block targets b) (targets_in d targets b) (beam_state d loop_block targets b) p
+unfoldable pub beam_symbol : Decoder → (ℕ → Bool) → List ℤ → ℕ → ℕ → ℕ
+beam_symbol d fixed targets b p =
+    near_symbol d (beam_head d fixed targets b) (targets_in d targets b) (beam_state d fixed targets b) p
 
 -- the beam's choice for so many blocks
-unfoldable pub beam_list : Decoder → Option ℕ → List ℤ → ℕ → Blocks
-beam_list d loop_block targets blocks = record {
-  heads = map (beam_head d loop_block targets) (range_with_len 0 blocks);
-  symbols = map (λ i. beam_symbol d loop_block targets (i / d.samples) (i % d.samples)) (range_with_len 0 (blocks * d.samples));
+unfoldable pub beam_list : Decoder → (ℕ → Bool) → List ℤ → ℕ → Blocks
+beam_list d fixed targets blocks = record {
+  heads = map (beam_head d fixed targets) (range_with_len 0 blocks);
+  symbols = map (λ i. beam_symbol d fixed targets (i / d.samples) (i % d.samples)) (range_with_len 0 (blocks * d.samples));
 }

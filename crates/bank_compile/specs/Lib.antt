@@ -1,6 +1,9 @@
 pub mod Beam
 pub mod Chosen
 pub mod Passes
+pub mod Codec
+pub mod Kinds
+pub mod Laws
 pub mod Sample
 pub mod Bound
 pub mod Bank

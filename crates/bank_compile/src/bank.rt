@@ -1,13 +1,16 @@
-ghost use Rattle.std.specs.Prelude.{◌≡◌, ◌≤◌, ◌<◌, ◌*◌, ◌++◌, ◌∷◌, [], length, map, All, OnOk, IfOk, IfSome};
+ghost use Rattle.std.specs.Prelude.{◌≡◌, ◌≤◌, ◌<◌, ◌*◌, ◌++◌, ◌∷◌, [], length, map, All, OnOk, IfOk, IfSome, None};
 ghost use Rattle.adpcm_nums.specs.Outcome.{Gives};
-ghost use Rattle.loop_fit.specs.Fit.{points_of};
+ghost use Rattle.loop_fit.specs.Fit.{IsWhole, points_of};
 ghost use Rattle.manifest_reader.specs.Ranges.{IsWithin};
 ghost use Rattle.snes_directory.specs.declared.fault.LayFault.TheVariants.{NoMemory as OutOfMemory};
-ghost use Rattle.bank_compile.specs.Sample.{IsBrrFit};
+ghost use Rattle.bank_compile.specs.Codec.{codec_of};
+ghost use Rattle.bank_compile.specs.Kinds.{brr_codec};
 ghost use Rattle.bank_compile.specs.Bank.{IsOut, part_of, first_file, image_of, bank_of};
 
+use crate::encode::Encode;
 use crate::sample::SampleOut;
 use adpcm_nums::{Bytes, LoopAt, NoMemory, Text};
+use brr_machine::Brr;
 use host_files::NamedFile;
 use loop_fit::Fitted;
 use manifest_reader::{Manifest, first_pass_name};
@@ -34,29 +37,36 @@ fn parts(alloc: Global, outs: &[SampleOut]) -> Result<Vec<ImagePart>, NoMemory>
     Ok(parts)
 }
 
-/// The samples of the loop in a fitted sound, from the loop block to the last block's end.
-fn loop_points(fitted: &Fitted) -> Option<LoopAt>
-    requires { IsBrrFit fitted.now }
-    ensures value { result ≡ points_of 16 fitted.now }
+/// The samples of the loop in a sound that is fitted to blocks of so many, from the loop block to the last block's end.
+fn loop_points(samples: u32, fitted: &Fitted) -> Option<LoopAt>
+    requires some { 0 < samples }
+    requires whole { IsWhole samples fitted.now }
+    requires frames { fitted.now.loop_frames ≡ None }
+    ensures value { result ≡ points_of samples fitted.now }
     ensures forward { IfSome result (λ at. at.start ≤ at.end) }
-    ensures inside { IfSome result (λ at. at.end < fitted.now.blocks * 16) }
+    ensures inside { IfSome result (λ at. at.end < fitted.now.blocks * samples) }
 {
     match fitted.loop_block {
         Some(block) => Some(LoopAt {
-            start: 16 * block,
-            end: 16 * fitted.blocks - 1,
+            start: block * samples,
+            end: fitted.blocks * samples - 1,
         }),
         None => fitted.loop_frames,
     }
 }
 
 /// The file of a sample's first pass, with its loop where it has one.
-fn first_file(alloc: Global, bank: &str, out: &SampleOut) -> Result<NamedFile, NoMemory>
-    requires { IsOut out.now }
-    ensures { IfOk result (λ file. file ≡ first_file bank.now out.now) }
+fn first_file<C: Encode>(
+    alloc: Global,
+    codec: &C,
+    bank: &str,
+    out: &SampleOut,
+) -> Result<NamedFile, NoMemory>
+    requires { IsOut (codec_of (C.rules codec.now) (C.format codec.now)) out.now }
+    ensures { IfOk result (λ file. file ≡ first_file (codec_of (C.rules codec.now) (C.format codec.now)) bank.now out.now) }
 {
     let samples = out.first.as_slice();
-    let bytes = match loop_points(&out.fitted) {
+    let bytes = match loop_points(codec.block_samples(), &out.fitted) {
         Some(at) => write_wave_loop(alloc, out.rate, samples, at)?,
         None => write_wave(alloc, out.rate, samples)?,
     };
@@ -75,17 +85,18 @@ fn push_file(files: &mut Vec<NamedFile>, file: NamedFile) -> Result<(), NoMemory
 }
 
 /// Adds the files of all first passes.
-fn push_first_files(
+fn push_first_files<C: Encode>(
     alloc: Global,
+    codec: &C,
     files: &mut Vec<NamedFile>,
     bank: &str,
     outs: &[SampleOut],
 ) -> Result<(), NoMemory>
-    requires { All IsOut outs.now }
-    ensures { OnOk result (files.new.items ≡ files.old.items ++ map (first_file bank.now) outs.now) }
+    requires { All (IsOut (codec_of (C.rules codec.now) (C.format codec.now))) outs.now }
+    ensures { OnOk result (files.new.items ≡ files.old.items ++ map (first_file (codec_of (C.rules codec.now) (C.format codec.now)) bank.now) outs.now) }
 {
     for out in outs {
-        push_file(files, first_file(alloc, bank, out)?)?;
+        push_file(files, first_file(alloc, codec, bank, out)?)?;
     }
     Ok(())
 }
@@ -95,7 +106,7 @@ fn image(alloc: Global, base: u32, outs: &[SampleOut]) -> Result<Bytes, LayFault
     requires base { IsWithin 0 65280 256 base }
     requires some { 1 ≤ length outs.now }
     requires few { length outs.now ≤ 64 }
-    requires outs { All IsOut outs.now }
+    requires outs { All (IsOut brr_codec) outs.now }
     ensures { Gives OutOfMemory (λ image. image) result (image_of base outs.now) }
 {
     let parts = parts(alloc, outs)?;
@@ -116,7 +127,7 @@ pub fn compile_bank(
     requires base { IsWithin 0 65280 256 manifest.now.base }
     requires some { 1 ≤ length outs.now }
     requires few { length outs.now ≤ 64 }
-    requires outs { All IsOut outs.now }
+    requires outs { All (IsOut brr_codec) outs.now }
     ensures { Gives OutOfMemory (λ files. files.items) result (bank_of manifest.now.bank manifest.now.base outs.now) }
 {
     let bank = manifest.bank.as_str();
@@ -124,6 +135,6 @@ pub fn compile_bank(
     let name = Text::copy_of(alloc, bank)?;
     let mut files = Vec::with_capacity(alloc, 1 + outs.len())?;
     push_file(&mut files, NamedFile { name, bytes })?;
-    push_first_files(alloc, &mut files, bank, outs)?;
+    push_first_files(alloc, &Brr, &mut files, bank, outs)?;
     Ok(files)
 }

@@ -1,13 +1,14 @@
 ghost use Rattle.std.specs.Prelude.{◌≡◌, ◌<◌, ◌++◌, [], IsTrue, IfOk, OnOk, map};
 ghost use Rattle.std.specs.List.{range_with_len};
-ghost use Rattle.machine_core.specs.Blocks.{IsLegal};
+ghost use Rattle.machine_core.specs.Blocks.{IsLegal, must_forget};
 ghost use Rattle.machine_core.specs.Sums.{sum_of};
 ghost use Rattle.bank_compile.specs.Beam.{IsBlock, AreTargets, near_state, near_symbol, near_sum, beam_list};
 ghost use Rattle.bank_compile.specs.Chosen.{list_of};
 
 use crate::head::best_head;
+use crate::near::near;
 use adpcm_nums::{NoMemory, Words32};
-use machine_core::{Choice, Machine, State, rule_in};
+use machine_core::{Choice, Machine, State, rule_for};
 use std::alloc::Global;
 
 /// No numbers yet, with room for so many.
@@ -40,10 +41,10 @@ fn push_block<M: Machine>(
     let mut sum = 0;
     for pos in 0..machine.block_samples() {
         let target = block[pos as usize];
-        let symbol = machine.nearest(head, pos, state, target);
-        state = machine.step(head, pos, symbol, state);
-        sum += machine.cost(state, target);
-        symbols.push(symbol)?;
+        let taken = near(machine, head, pos, state, target);
+        state = taken.state;
+        sum += taken.cost;
+        symbols.push(taken.symbol)?;
     }
     Ok((state, sum))
 }
@@ -60,9 +61,9 @@ pub(crate) fn greedy<M: Machine>(
     loop_block: Option<u32>,
 ) -> Result<Choice, NoMemory>
     requires { AreTargets (M.rules machine.now).decoder blocks targets.now }
-    ensures list { IfOk result (λ choice. list_of choice ≡ beam_list (M.rules machine.now).decoder loop_block targets.now blocks) }
+    ensures list { IfOk result (λ choice. list_of choice ≡ beam_list (M.rules machine.now).decoder (must_forget (M.rules machine.now).kind loop_block) targets.now blocks) }
     ensures sum { IfOk result (λ choice. choice.sum ≡ sum_of (M.rules machine.now).decoder (list_of choice) targets.now blocks) }
-    ensures legal { IfOk result (λ choice. IsLegal (M.rules machine.now).decoder blocks loop_block (list_of choice)) }
+    ensures legal { IfOk result (λ choice. IsLegal (M.rules machine.now).decoder blocks (must_forget (M.rules machine.now).kind loop_block) (list_of choice)) }
 {
     let samples = machine.block_samples() as usize;
     let mut heads = with_room(alloc, blocks as usize)?;
@@ -72,7 +73,12 @@ pub(crate) fn greedy<M: Machine>(
     for b in 0..blocks {
         let first = b as usize * samples;
         let block = &targets[first..first + samples];
-        let head = best_head(machine, rule_in(loop_block, b), block, state);
+        let head = best_head(
+            machine,
+            rule_for(machine.kind(), loop_block, b),
+            block,
+            state,
+        );
         let (after, cost) = push_block(machine, head, block, state, &mut symbols)?;
         heads.push(head)?;
         state = after;

@@ -1,6 +1,7 @@
 ghost use Rattle.std.specs.Prelude.{◌≡◌, ◌<◌, ◌≤◌, IsTrue, IsNone, IfSome};
 ghost use Rattle.bank_compile.specs.Beam.{IsBlock, near_sum, head_sum, best_head};
 
+use crate::near::near;
 use machine_core::{HeadRule, Machine, State};
 
 /// What a block costs under a head, each target with its nearest symbol, where that is less than `most`.
@@ -22,9 +23,9 @@ fn cost_under<M: Machine>(
     let mut sum = 0;
     for pos in 0..machine.block_samples() {
         let target = block[pos as usize];
-        let symbol = machine.nearest(head, pos, state, target);
-        state = machine.step(head, pos, symbol, state);
-        sum += machine.cost(state, target);
+        let taken = near(machine, head, pos, state, target);
+        state = taken.state;
+        sum += taken.cost;
         if sum >= most {
             return None;
         }

@@ -2,9 +2,13 @@
 #![tactic(auto)]
 
 mod bank;
+mod brr;
+mod encode;
 mod greedy;
 mod head;
+mod kinds;
 mod laws;
+mod near;
 mod passes;
 mod replay;
 mod sample;
@@ -13,9 +17,10 @@ mod told;
 
 pub use bank::compile_bank;
 pub use host_files::NamedFile;
-pub use laws::{bound_holds, fit_is_brr};
+pub use kinds::compile_sample;
+pub use laws::{bound_holds, brr_encodes, fit_is_brr};
 pub use replay::stored_bank_replays;
-pub use sample::{SampleOut, compile_sample};
+pub use sample::SampleOut;
 pub use told::report;
 
 #[cfg(test)]

@@ -1,7 +1,7 @@
 ghost use Rattle.std.specs.Prelude.{◌≡◌, ◌*◌, ◌≤◌, ◌*ℤ◌, pos, IsTrue, IfOk};
 ghost use Rattle.adpcm_nums.specs.Sample.{IsSample, AreSamples};
 ghost use Rattle.machine_core.specs.declared.state.State.{State};
-ghost use Rattle.machine_core.specs.Blocks.{IsLegal};
+ghost use Rattle.machine_core.specs.Blocks.{IsInRange};
 ghost use Rattle.bank_compile.specs.Chosen.{list_of};
 ghost use Rattle.bank_compile.specs.Passes.{outputs_of};
 
@@ -25,9 +25,8 @@ pub(crate) fn outputs<M: Machine>(
     scale: i32,
     choice: &Choice,
     blocks: u32,
-    loop_block: Option<u32>,
 ) -> Result<Samples, NoMemory>
-    requires legal { IsLegal (M.rules machine.now).decoder blocks loop_block (list_of choice.now) }
+    requires in_range { IsInRange (M.rules machine.now).decoder blocks (list_of choice.now) }
     requires few { blocks * (M.rules machine.now).decoder.samples ≤ 262144 }
     requires scale { scale ≡ pos (M.rules machine.now).decoder.scale }
     requires range { (at : State) → IsTrue ((M.rules machine.now).decoder.is_state at) → IsSample (scale *ℤ at.a) }

@@ -1,16 +1,16 @@
 ghost use Rattle.std.specs.Prelude.{◌≡◌, ◌≤◌, IfOk, length};
 ghost use Rattle.loop_fit.specs.Segments.{segments_of};
-ghost use Rattle.bank_compile.specs.Sample.{IsBrrFit, IsCompiled, bound_of, loop_shown};
+ghost use Rattle.bank_compile.specs.Codec.{codec_of};
+ghost use Rattle.bank_compile.specs.Sample.{IsFit, IsCompiled, bound_of, loop_shown};
 ghost use Rattle.bank_compile.specs.Bank.{IsOut};
 
+use crate::encode::Encode;
 use crate::greedy::greedy;
 use crate::passes::outputs;
 use crate::spell::spell_blocks;
 use adpcm_nums::{Bytes, NoMemory, Samples, Text};
-use brr_machine::Brr;
 use loop_fit::{Fitted, segments};
-use machine_core::{Kind, floor_of_blocks};
-use manifest_reader::Manifest;
+use machine_core::floor_of_blocks;
 use report_text::{LoopShown, SampleReport};
 use std::alloc::Global;
 
@@ -44,11 +44,11 @@ fn shown(loop_block: Option<u32>) -> LoopShown
 }
 
 /// How many segments a fitted sound has.
-fn segment_count(alloc: Global, kind: Kind, fitted: &Fitted) -> Result<u32, NoMemory>
-    requires { IsBrrFit fitted.now }
-    ensures { IfOk result (λ count. count ≡ length (segments_of kind fitted.now.blocks fitted.now.loop_block)) }
+fn segment_count<C: Encode>(alloc: Global, codec: &C, fitted: &Fitted) -> Result<u32, NoMemory>
+    requires { IsFit (codec_of (C.rules codec.now) (C.format codec.now)) fitted.now }
+    ensures { IfOk result (λ count. count ≡ length (segments_of (C.rules codec.now).kind fitted.now.blocks fitted.now.loop_block)) }
 {
-    let list = segments(alloc, kind, fitted.blocks, fitted.loop_block)?;
+    let list = segments(alloc, codec.kind(), fitted.blocks, fitted.loop_block)?;
     Ok(list.as_slice().len() as u32)
 }
 
@@ -56,52 +56,44 @@ fn segment_count(alloc: Global, kind: Kind, fitted: &Fitted) -> Result<u32, NoMe
 // It is kept apart so that a profile can tell its cost from that of the choice of blocks.
 #[inline(never)]
 #[tactic(auto, unfolding(crate::specs::Sample::bound_of))]
-fn bound(fitted: &Fitted) -> u64
-    requires { IsBrrFit fitted.now }
-    ensures { result ≡ bound_of fitted.now }
+fn bound<C: Encode>(codec: &C, fitted: &Fitted) -> u64
+    requires { IsFit (codec_of (C.rules codec.now) (C.format codec.now)) fitted.now }
+    ensures { result ≡ bound_of (codec_of (C.rules codec.now) (C.format codec.now)) fitted.now }
 {
     floor_of_blocks(
-        &Brr,
+        codec,
         fitted.loop_block,
         fitted.targets.as_slice(),
         fitted.blocks,
     )
 }
 
-/// Compiles a fitted sound: chooses its blocks, and tells how far they are from it.
-///
-/// The choice is the beam's of width 1: block after block, the head whose nearest symbols cost least. The bound that is told
-/// is the sum of the blocks' floors, and no segment is searched. Only want of memory is refused.
-pub fn compile_sample(
+/// Compiles a fitted sound to the blocks of a codec.
+pub(crate) fn encoded<C: Encode>(
     alloc: Global,
-    manifest: &Manifest,
+    codec: &C,
     name: &str,
     rate: u32,
     fitted: Fitted,
 ) -> Result<SampleOut, NoMemory>
     requires some_rate { 1 ≤ rate }
     requires high_rate { rate ≤ 1000000 }
-    requires fit { IsBrrFit fitted }
-    ensures compiled { IfOk result (IsCompiled manifest.now.kind name.now rate fitted) }
-    ensures out { IfOk result IsOut }
+    requires fit { IsFit (codec_of (C.rules codec.now) (C.format codec.now)) fitted }
+    ensures compiled { IfOk result (IsCompiled (codec_of (C.rules codec.now) (C.format codec.now)) name.now rate fitted) }
+    ensures out { IfOk result (IsOut (codec_of (C.rules codec.now) (C.format codec.now))) }
     ensures bound { IfOk result (λ out. out.report.bound ≤ out.report.error) }
 {
-    let choice = greedy(
-        alloc,
-        &Brr,
-        fitted.targets.as_slice(),
-        fitted.blocks,
-        fitted.loop_block,
-    )?;
-    let blocks = spell_blocks(alloc, &choice, fitted.blocks, fitted.loop_block)?;
-    let first = outputs(alloc, &Brr, 2, &choice, fitted.blocks, fitted.loop_block)?;
+    let targets = fitted.targets.as_slice();
+    let choice = greedy(alloc, codec, targets, fitted.blocks, fitted.loop_block)?;
+    let blocks = spell_blocks(alloc, codec, &choice, fitted.blocks, fitted.loop_block)?;
+    let first = outputs(alloc, codec, codec.scale(), &choice, fitted.blocks)?;
     let report = SampleReport {
         name: Text::copy_of(alloc, name)?,
         blocks: fitted.blocks,
         shown: shown(fitted.loop_block),
         error: choice.sum,
-        bound: bound(&fitted),
-        levels: [0, 0, 0, segment_count(alloc, manifest.kind, &fitted)?],
+        bound: bound(codec, &fitted),
+        levels: [0, 0, 0, segment_count(alloc, codec, &fitted)?],
     };
     Ok(SampleOut {
         name: Text::copy_of(alloc, name)?,

@@ -1,70 +1,56 @@
-ghost use Rattle.std.specs.Prelude.{◌≡◌, ◌<◌, ◌++◌, length, All, IfOk, OnOk, IfSome};
-ghost use Rattle.machine_core.specs.Blocks.{IsLegal};
-ghost use Rattle.brr_machine.specs.Brr.{brr};
+ghost use Rattle.std.specs.Prelude.{◌≡◌, ◌<◌, ◌++◌, IfOk, OnOk, IfSome};
+ghost use Rattle.machine_core.specs.Blocks.{IsInRange};
 ghost use Rattle.player_model.specs.Stored.{stored_block, stored_blocks};
 ghost use Rattle.bank_compile.specs.Chosen.{list_of};
 
+use crate::encode::Encode;
 use adpcm_nums::{Bytes, NoMemory};
 use block_flags::flagged;
-use brr_machine::{BrrBlock, spell_block};
-use machine_core::{Choice, Kind};
+use machine_core::Choice;
 use std::alloc::Global;
 
-/// The codes of a block.
-fn codes_of(symbols: &[u32]) -> [u8; 16]
-    requires count { length symbols.now ≡ 16 }
-    requires range { All (λ c. c < 16) symbols.now }
-    ensures { result ≡ symbols.now }
-{
-    let mut codes = [0u8; 16];
-    for place in 0..16 {
-        codes[place] = symbols[place] as u8;
-    }
-    codes
-}
-
-/// The nine bytes of a block of a list, with its written flags.
-fn stored_block(choice: &Choice, blocks: u32, loop_block: Option<u32>, b: u32) -> [u8; 9]
-    requires legal { IsLegal brr blocks loop_block (list_of choice.now) }
+/// Adds the bytes of block `b` of a list, with its written flags.
+fn push_stored<C: Encode>(
+    codec: &C,
+    bytes: &mut Vec<u8>,
+    choice: &Choice,
+    blocks: u32,
+    loop_block: Option<u32>,
+    b: u32,
+) -> Result<(), NoMemory>
+    requires in_range { IsInRange (C.rules codec.now).decoder blocks (list_of choice.now) }
     requires loop_block { IfSome loop_block (λ l. l < blocks) }
     requires block { b < blocks }
-    ensures { result ≡ stored_block (list_of choice.now) blocks loop_block b }
+    ensures { OnOk result (bytes.new.items ≡ bytes.old.items ++ stored_block (C.rules codec.now).decoder (C.format codec.now) (list_of choice.now) blocks loop_block b) }
 {
+    let samples = codec.block_samples() as usize;
+    let first = b as usize * samples;
     let head = choice.heads.as_slice()[b as usize];
-    let first = 16 * b as usize;
-    let codes = codes_of(&choice.symbols.as_slice()[first..first + 16]);
-    let flags = flagged(Kind::Brr, b, blocks, loop_block);
-    spell_block(&BrrBlock { head, flags, codes })
+    let symbols = &choice.symbols.as_slice()[first..first + samples];
+    let flags = flagged(codec.kind(), b, blocks, loop_block);
+    codec.push_block(bytes, head, flags, symbols)
 }
 
-/// Adds bytes at the end.
-fn push_bytes(bytes: &mut Vec<u8>, more: &[u8]) -> Result<(), NoMemory>
-    ensures { OnOk result (bytes.new.items ≡ bytes.old.items ++ more.now) }
-{
-    match bytes.extend_from_slice(more) {
-        Ok(()) => Ok(()),
-        Err(_) => Err(NoMemory),
-    }
-}
-
-/// The bytes of a list of blocks as they are stored, each block with its written flags (fullsnes, BRR samples).
+/// The bytes of a list of blocks as they are stored, each block with its written flags.
 #[tactic(auto, unfolding(player_model::specs::Stored::stored_front))]
-pub(crate) fn spell_blocks(
+pub(crate) fn spell_blocks<C: Encode>(
     alloc: Global,
+    codec: &C,
     choice: &Choice,
     blocks: u32,
     loop_block: Option<u32>,
 ) -> Result<Bytes, NoMemory>
-    requires legal { IsLegal brr blocks loop_block (list_of choice.now) }
+    requires in_range { IsInRange (C.rules codec.now).decoder blocks (list_of choice.now) }
     requires loop_block { IfSome loop_block (λ l. l < blocks) }
-    ensures { IfOk result (λ bytes. bytes ≡ stored_blocks (list_of choice.now) blocks loop_block) }
+    ensures { IfOk result (λ bytes. bytes ≡ stored_blocks (C.rules codec.now).decoder (C.format codec.now) (list_of choice.now) blocks loop_block) }
 {
-    let mut bytes = match Vec::with_capacity(alloc, 9 * blocks as usize) {
+    let room = codec.block_size() as usize * blocks as usize;
+    let mut bytes = match Vec::with_capacity(alloc, room) {
         Ok(bytes) => bytes,
         Err(_) => return Err(NoMemory),
     };
     for b in 0..blocks {
-        push_bytes(&mut bytes, &stored_block(choice, blocks, loop_block, b))?;
+        push_stored(codec, &mut bytes, choice, blocks, loop_block, b)?;
     }
     Ok(Bytes::from_vec(bytes))
 }

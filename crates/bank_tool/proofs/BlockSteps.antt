@@ -1,8 +1,8 @@
 -- The command `block`, over plain variables.
-use Rattle.std.proofs.Common.{◌≡◌, ℕ, ◌<◌, ◌≤◌, ◌==◌, min, List, [], ◌∷◌, length, ℤ, refl, sym, ap, subst, ◌∙◌, arith, inl, inr, true, false, cond, nat_lt, None}
+use Rattle.std.proofs.Common.{◌≡◌, ℕ, ◌<◌, ◌≤◌, ◌==◌, min, List, [], ◌∷◌, length, ℤ, refl, sym, ap, subst, ◌∙◌, arith, inl, inr, true, false, cond, nat_lt}
 use Rattle.std.proofs.lemmas.Bool.{cases_eq, cases_order, cond-true, cond-false, lt-ltb, le-ltb, eq-eqb, ne_eqb}
 use Rattle.adpcm_nums.specs.Outcome.{Tells}
-use Rattle.machine_core.specs.Blocks.{Blocks, IsLegal}
+use Rattle.machine_core.specs.Blocks.{Blocks, IsLegal, first_only}
 use Rattle.machine_core.specs.Sums.{sum_of}
 use Rattle.brr_machine.specs.Brr.{brr}
 use Rattle.brr_machine.specs.Spelling.{spelling}
@@ -37,7 +37,7 @@ spelled ts head flags codes h f k =
     ap (λ n. spelling n flags codes) h ∙ ap (λ n. spelling (zero_head (best_shift ts)) n codes) f ∙ ap (λ cs. spelling (zero_head (best_shift ts)) 1 cs) k
 
 -- the block that was made, as a file, and its line
-pub is_block : (ts : List ℤ) (output name bytes line : List ℕ) (head flags : ℕ) (codes : List ℕ) (error : ℕ) → name ≡ output → bytes ≡ spelling head flags codes → head ≡ zero_head (best_shift ts) → flags ≡ 1 → codes ≡ nearest_codes (best_shift ts) ts → line ≡ block_line error error → error ≡ zero_sum ts → length ts ≡ 16 → ((list : Blocks) → IsLegal brr 1 None list → error ≤ sum_of brr list ts 1) → IsBlock ts output (record { name = name; bytes = bytes } ∷ []) line
+pub is_block : (ts : List ℤ) (output name bytes line : List ℕ) (head flags : ℕ) (codes : List ℕ) (error : ℕ) → name ≡ output → bytes ≡ spelling head flags codes → head ≡ zero_head (best_shift ts) → flags ≡ 1 → codes ≡ nearest_codes (best_shift ts) ts → line ≡ block_line error error → error ≡ zero_sum ts → length ts ≡ 16 → ((list : Blocks) → IsLegal brr 1 first_only list → error ≤ sum_of brr list ts 1) → IsBlock ts output (record { name = name; bytes = bytes } ∷ []) line
 is_block ts output name bytes line head flags codes error n b h f k l e len least =
     let same : error ≡ error_of ts = e ∙ zero_sum-is ts in
     record {

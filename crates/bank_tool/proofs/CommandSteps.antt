@@ -46,9 +46,9 @@ play_answers o files kind file entry count a b r e h =
     answers_play files file entry count a b r (subst (λ (x : Option Command). Promises (course_of x files) (choice_of x files) a b r) e h)
 
 -- words that are `compile`
-pub compile_answers : (o : Option Command) (files : Files) (manifest : List ℕ) (a b : World) (r : Status) → o ≡ Some (Compile manifest) → Promises (course_of o files) (choice_of o files) a b r → AnswersCompile files manifest a b r
-compile_answers o files manifest a b r e h =
-    answers_compile files manifest a b r (subst (λ (x : Option Command). Promises (course_of x files) (choice_of x files) a b r) e h)
+pub compile_answers : (o : Option Command) (files : Files) (manifest : List ℕ) (a b : World) (r : Status) → a.files ≡ Some files → o ≡ Some (Compile manifest) → Promises (course_of o files) (choice_of o files) a b r → AnswersCompile files manifest a b r
+compile_answers o files manifest a b r told e h =
+    answers_compile files manifest a b r told (subst (λ (x : Option Command). Promises (course_of x files) (choice_of x files) a b r) e h)
 
 -- a command that is `block`
 pub block_obeys : (command : Command) (files : Files) (x y input output : List ℕ) (a b : World) (r : Status) → command ≡ Block x y → input ≡ x → output ≡ y → Promises (block_course files input output) (IsBlock (targets_in files input) output) a b r → Promises (course_of (Some command) files) (choice_of (Some command) files) a b r

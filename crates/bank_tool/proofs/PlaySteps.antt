@@ -1,10 +1,10 @@
 -- The command `play`, over plain variables.
-use Rattle.std.proofs.Common.{◌≡◌, ◌≢◌, ◌⊎◌, ℕ, zero, suc, ◌+◌, ◌==◌, List, [], length, take, Bool, true, false, cond, nat_lt, refl, sym, ap, subst, ◌∙◌, arith, inl, inr, Option, Some, None, Result, Ok, Err, IfErr}
+use Rattle.std.proofs.Common.{◌≡◌, ◌≢◌, ◌≤◌, ◌⊎◌, ℕ, zero, suc, ◌+◌, ◌==◌, List, [], length, take, Bool, true, false, cond, nat_lt, refl, sym, ap, subst, ◌∙◌, arith, inl, inr, Option, Some, None, Result, Ok, Err}
 use Rattle.std.proofs.lemmas.Bool.{cond-true, cond-false, eq-eqb, ne_eqb}
 use Rattle.std.proofs.lemmas.Option.{slice_get_within}
 use Rattle.adpcm_nums.specs.First.{first_where}
 use Rattle.adpcm_nums.specs.Outcome.{Tells, Gives, ◌>>=◌}
-use Rattle.host_files.specs.Outside.{World, Files, content_of, raised}
+use Rattle.host_files.specs.Outside.{World, Files, content_of, raised, Rose}
 use Rattle.host_files.specs.declared.named_file.NamedFile.{NamedFile}
 use Rattle.player_model.specs.declared.fault.TrackFault.{TrackFault}
 use Rattle.player_model.specs.Track.{Track}
@@ -20,7 +20,7 @@ use Rattle.command_plan.specs.declared.status.HostCall.TheVariants.{Fetch, Store
 use Rattle.command_plan.specs.Ending.{Ending, Finished, Declined, Broken, Starved, is_device, is_finished, ending_of}
 use Rattle.command_plan.specs.Plan.{Plan, names_in, all_stored, SetBut, PartlySet, LeftAt, FollowsTo, Follows}
 use Rattle.command_plan.specs.Reading.{Reading, fetched, nothing_read, then_read, writing_course, status_of, tested_reading, Declines}
-use Rattle.command_plan.specs.Steps.{Comes, HasRead, ReadsTo, writing}
+use Rattle.command_plan.specs.Steps.{Comes, HasRead, Keeps, ReadsTo, writing}
 use Rattle.command_plan.specs.Promise.{IsPlanOf, Reaches, Promises, Finishes}
 use Rattle.command_plan.proofs.Readings.{reads_next, reads_nothing}
 use Rattle.command_plan.proofs.Tested.{tested_done, tested_refused}
@@ -79,13 +79,14 @@ answer_is P file read s h one memory input = elim one [
   | inr e ↦ let k : Refuses {T = List ℕ} file (Err s) = subst (Refuses {T = List ℕ} file) e h in subst P (sym k.1) (input k.0)
 ]
 
-pub no_device : (Rises : Type 0) (file : List ℕ) (read r : Result (List ℕ) Status) → Refuses file read → Gives Memory (λ lines. lines) r read → IfErr r (λ s. is_device s ≡ true → Rises)
-no_device Rises file read (Ok v) h one = tt
-no_device Rises file read (Err s) h one = answer_is (λ t. is_device t ≡ true → Rises) file read s h one (λ e. cc) (λ fault e. cc)
-
-pub no_words : (file : List ℕ) (read r : Result (List ℕ) Status) → Refuses file read → Gives Memory (λ lines. lines) r read → IfErr r (λ s. s ≢ Words)
-no_words file read (Ok v) h one = tt
-no_words file read (Err s) h one = answer_is (λ t. t ≢ Words) file read s h one (λ e. cc) (λ fault e. cc)
+-- so what it says brings about no failed call
+pub keeps_said : (a b : World) (file : List ℕ) (read r : Result (List ℕ) Status) → Refuses file read → a.faults ≤ b.faults → Gives Memory (λ lines. lines) r read → Keeps a b (status_of r)
+keeps_said a b file read (Ok v) h later one = record { later = later; device = λ e. cc; words = λ e. cc }
+keeps_said a b file read (Err s) h later one = record {
+  later = later;
+  device = answer_is (λ t. is_device t ≡ true → Rose a.faults b.faults) file read s h one (λ e. cc) (λ fault e. cc);
+  words = answer_is (λ t. t ≢ Words) file read s h one (λ e. cc) (λ fault e. cc);
+}
 
 -- the file was fetched, and what it says decides
 pub reads_said : (file : List ℕ) (read r : Result (List ℕ) Status) (a b : World) → HasRead (fetched file) a b → Refuses file read → Gives Memory (λ lines. lines) r read → ReadsTo (tested_reading file read) a b r (λ lines. read ≡ Ok lines)

@@ -1,7 +1,7 @@
 -- The command `block`: one file of sixteen samples becomes one block of filter 0.
-use Rattle.std.specs.Prelude.{false, ◌≡◌, ℕ, ◌≤◌, ◌==◌, min, if◌then◌else◌, ℤ, List, [], ◌∷◌, length, None}
+use Rattle.std.specs.Prelude.{false, ◌≡◌, ℕ, ◌≤◌, ◌==◌, min, if◌then◌else◌, ℤ, List, [], ◌∷◌, length}
 use Rattle.adpcm_nums.specs.Outcome.{Tells}
-use Rattle.machine_core.specs.Blocks.{Blocks, IsLegal}
+use Rattle.machine_core.specs.Blocks.{Blocks, IsLegal, first_only}
 use Rattle.machine_core.specs.Sums.{sum_of}
 use Rattle.brr_machine.specs.Brr.{brr}
 use Rattle.brr_machine.specs.Spelling.{spelling}
@@ -46,8 +46,8 @@ pub record IsBlock (targets : List ℤ) (output : List ℕ) (writes : List Named
   pub file : writes ≡ record { name = output; bytes = zero_bytes targets } ∷ []
   pub told : line ≡ block_line (error_of targets) (error_of targets)
   -- the block is one of filter 0, and none of them has a smaller error
-  pub legal : IsLegal brr 1 None (zero_block targets)
-  pub least : (list : Blocks) → IsLegal brr 1 None list → error_of targets ≤ sum_of brr list targets 1
+  pub legal : IsLegal brr 1 first_only (zero_block targets)
+  pub least : (list : Blocks) → IsLegal brr 1 first_only list → error_of targets ≤ sum_of brr list targets 1
 
 -- how `block` ends, where the host does not fail and memory does not run out; 33 stands for more bytes
 abbrev pub block_outcome : Files → List ℕ → Status
@@ -61,8 +61,8 @@ pub record HasBlock (held : Files) (input output : List ℕ) (a b : World) : Typ
   -- the samples were fetched, the block stored, and its line said
   pub calls : b.calls ≡ raised 3 a.calls
   -- the block is one of filter 0, and none of them has a smaller error
-  pub legal : IsLegal brr 1 None (zero_block (targets_in held input))
-  pub least : (list : Blocks) → IsLegal brr 1 None list → error_of (targets_in held input) ≤ sum_of brr list (targets_in held input) 1
+  pub legal : IsLegal brr 1 first_only (zero_block (targets_in held input))
+  pub least : (list : Blocks) → IsLegal brr 1 first_only list → error_of (targets_in held input) ≤ sum_of brr list (targets_in held input) 1
 
 -- what `block` answers, in its own words: r is the answer, from a to b
 pub record AnswersBlock (held : Files) (input output : List ℕ) (a b : World) (r : Status) : Type 0 where

@@ -1,22 +1,23 @@
 -- The command `compile`: the files that a manifest names become the files of a bank.
-use Rattle.std.specs.Prelude.{◌≡◌, ℕ, suc, ◌+◌, ◌*◌, nat_lt, if◌then◌else◌, List, [], ◌∷◌, length, map, Some, slice_get, Result, Ok, Err}
+use Rattle.std.specs.Prelude.{◌≡◌, ℕ, if◌then◌else◌, List, [], ◌∷◌, length, Some, slice_get, Result, Ok, Err}
 use Rattle.std.specs.List.{AllZip, IsDistinct, sum_by}
 use Rattle.std.specs.Str.{bytes_eq}
 use Rattle.adpcm_nums.specs.Outcome.{◌>>=◌}
-use Rattle.host_files.specs.Outside.{Files}
+use Rattle.host_files.specs.Outside.{Files, content_of}
 use Rattle.host_files.specs.declared.named_file.NamedFile.{NamedFile}
-use Rattle.machine_core.specs.declared.state.Kind.{Kind}
 use Rattle.loop_fit.specs.declared.rule.FitRule.{FitRule}
 use Rattle.manifest_reader.specs.declared.manifest.SampleEntry.{SampleEntry}
 use Rattle.manifest_reader.specs.Meaning.{Content}
-use Rattle.manifest_reader.specs.Stored.{first_pass_of}
+use Rattle.manifest_reader.specs.Stored.{first_pass_of, stored_names}
+use Rattle.snes_directory.specs.Layout.{end_address, is_past_end}
+use Rattle.bank_compile.specs.Kinds.{brr_codec}
 use Rattle.bank_compile.specs.declared.sample.SampleOut.{SampleOut}
 use Rattle.bank_compile.specs.Sample.{IsCompiled}
 use Rattle.bank_compile.specs.Bank.{bank_of}
-use Rattle.bank_compile.specs.Told.{report_text}
+use Rattle.bank_compile.specs.Told.{file_count, report_text}
 use Rattle.command_plan.specs.declared.status.Status.{Status}
 use Rattle.command_plan.specs.declared.status.Status.TheVariants.{Full}
-use Rattle.command_plan.specs.Plan.{names_in}
+use Rattle.command_plan.specs.Plan.{names_in, all_stored}
 use Rattle.command_plan.specs.Reading.{Reading, nothing_read, then_read, decided, read_each, writing_course, status_of, tested_reading}
 use Rattle.command_plan.specs.Promise.{Choice}
 use Rattle.bank_tool.specs.declared.source.Source.{Source}
@@ -47,22 +48,22 @@ source_reading files rule entry = tested_reading entry.file (source_in files rul
 abbrev pub sources_in : Files → Content → Result (List Source) Status
 sources_in files m = each_of (source_in files (rule_of m)) m.samples
 
--- the address behind the last sample: an entry of the directory has four bytes and a block nine
+-- the address behind the last sample
 abbrev pub bank_end : ℕ → List Source → ℕ
-bank_end base sources = base + 4 * length sources + 9 * sum_by (λ s. s.fitted.blocks) sources
+bank_end base sources = end_address base (length sources) (sum_by (λ s. s.fitted.blocks) sources)
 
--- the samples that fit into sound memory, of 65,536 bytes
+-- the samples that fit into sound memory
 unfoldable pub with_room : List ℕ → ℕ → List Source → Result (List Source) Status
-with_room bank base sources = if nat_lt 65536 (bank_end base sources) then Err (Full bank (bank_end base sources)) else Ok sources
+with_room bank base sources = if is_past_end (bank_end base sources) then Err (Full bank (bank_end base sources)) else Ok sources
 
 -- the files of the samples are fetched in order, and then there must be room for their blocks
 abbrev pub sources_reading : Files → Content → Reading
 sources_reading files m =
     then_read (read_each (source_reading files (rule_of m)) m.samples) (decided (status_of (sources_in files m >>= with_room m.bank m.base)))
 
--- the names that are stored: the image, then each first pass
+-- the names that are stored
 abbrev pub bank_names : Content → List (List ℕ)
-bank_names m = m.bank ∷ map (λ (s : SampleEntry). first_pass_of m.bank s.name) m.samples
+bank_names m = stored_names m.kind m.bank m.samples
 
 -- what is done for a manifest that was read
 abbrev pub bank_course : Files → Content → Reading
@@ -78,26 +79,28 @@ abbrev pub compile_course : Files → List ℕ → Reading
 compile_course files manifest = then_read (tested_reading manifest (meaning_in files manifest)) (course_by files (meaning_in files manifest))
 
 -- a source with what was made of it
-abbrev pub IsMadeOf : Kind → Source → SampleOut → Type 0
-IsMadeOf kind source out = IsCompiled kind source.name source.rate source.fitted out
+abbrev pub IsMadeOf : Source → SampleOut → Type 0
+IsMadeOf source out = IsCompiled brr_codec source.name source.rate source.fitted out
 
--- the image and each first pass are what the report says of each source
-abbrev pub AllStored : List Source → List SampleOut → List NamedFile → Type 0
-AllStored sources outs writes = (j : ℕ) (source : Source) (out : SampleOut) (image first : NamedFile)
-    → slice_get sources j ≡ Some source → slice_get outs j ≡ Some out → slice_get writes 0 ≡ Some image → slice_get writes (suc j) ≡ Some first
-    → IsStored image.bytes first.bytes j source out.report
+-- under their names the files hold what the report says of each source
+abbrev pub AllStored : List ℕ → List Source → List SampleOut → Files → Type 0
+AllStored bank sources outs files = (j : ℕ) (source : Source) (out : SampleOut) → slice_get sources j ≡ Some source → slice_get outs j ≡ Some out
+    → IsStored (content_of files bank) (content_of files (first_pass_of bank source.name)) j source out.report
 
 -- what is stored and said for these sources: some blocks are chosen for each, and all else is made of them
 pub record IsBank (m : Content) (sources : List Source) (writes : List NamedFile) (line : List ℕ) : Type 0 where
   -- what was made of each source
   pub outs : List SampleOut
-  pub made : AllZip (IsMadeOf m.kind) sources outs
+  pub made : AllZip IsMadeOf sources outs
   pub files : bank_of m.bank m.base outs ≡ Ok writes
-  -- no two of these files have one name
+  -- they have the names of a bank's files, of which no two are equal
+  pub names : names_in writes ≡ bank_names m
   pub once : IsDistinct bytes_eq (names_in writes)
+  -- the report tells of each sample, and how many files there are
   pub told : line ≡ report_text outs
-  -- each sample is stored and told as promised
-  pub stored : AllStored sources outs writes
+  pub count : file_count (length outs) ≡ length writes
+  -- whatever was stored before, each sample is then stored and told as promised
+  pub stored : (before after : Files) → all_stored (Some before) writes ≡ Some after → AllStored m.bank sources outs after
 
 -- what may be stored and said for a manifest that was read
 abbrev pub bank_choice : Files → Content → Choice

@@ -1,5 +1,5 @@
 -- What `compile` answers, in its own words.
-use Rattle.std.specs.Prelude.{false, ◌≡◌, ℕ, ◌+◌, ◌*◌, List, length, Ok}
+use Rattle.std.specs.Prelude.{false, ◌≡◌, ℕ, ◌+◌, List, length, Some, Ok}
 use Rattle.adpcm_nums.specs.Outcome.{Tells}
 use Rattle.host_files.specs.Outside.{World, Files, grown, raised}
 use Rattle.host_files.specs.declared.named_file.NamedFile.{NamedFile}
@@ -7,9 +7,9 @@ use Rattle.manifest_reader.specs.Meaning.{Content}
 use Rattle.command_plan.specs.declared.status.Status.{Status}
 use Rattle.command_plan.specs.declared.status.Status.TheVariants.{Done, Memory}
 use Rattle.command_plan.specs.Ending.{is_device}
-use Rattle.command_plan.specs.Plan.{names_in, all_stored}
+use Rattle.command_plan.specs.Plan.{all_stored}
 use Rattle.bank_tool.specs.declared.source.Source.{Source}
-use Rattle.bank_tool.specs.Compile.{meaning_in, sources_in, bank_names, IsBank, compile_course}
+use Rattle.bank_tool.specs.Compile.{meaning_in, sources_in, bank_names, AllStored, IsBank, compile_course}
 
 -- what `compile` has done where it ends well; `held` are the files before
 pub record HasCompiled (held : Files) (manifest : List ℕ) (a b : World) : Type 0 where
@@ -18,16 +18,16 @@ pub record HasCompiled (held : Files) (manifest : List ℕ) (a b : World) : Type
   pub meaning : meaning_in held manifest ≡ Ok content
   pub sources : List Source
   pub read : sources_in held content ≡ Ok sources
-  -- a bank of these sources was made: its image plays each of them, the told errors are exact, and the told bounds hold
+  -- a bank of these sources was made, and exactly its files were set, and exactly its report was said
   pub writes : List NamedFile
   pub line : List ℕ
   pub bank : IsBank content sources writes line
-  -- exactly its files were set, of which no two have one name, and exactly its report was said
-  pub names : names_in writes ≡ bank_names content
   pub files : b.files ≡ all_stored a.files writes
   pub said : b.said ≡ grown a.said line
-  -- the manifest and each source were fetched, the image and each first pass stored, and one line said
-  pub calls : b.calls ≡ raised (2 * length content.samples + 3) a.calls
+  -- so now the image plays each source as the file of its first pass says, the told errors are exact, and the told bounds hold
+  pub kept : (after : Files) → b.files ≡ Some after → AllStored content.bank sources bank.outs after
+  -- the manifest and each source were fetched, each of the bank's files stored, and one line said
+  pub calls : b.calls ≡ raised (1 + length content.samples + length (bank_names content) + 1) a.calls
 
 -- what `compile` answers: r is the answer, from a to b
 pub record AnswersCompile (held : Files) (manifest : List ℕ) (a b : World) (r : Status) : Type 0 where

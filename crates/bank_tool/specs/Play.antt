@@ -6,7 +6,10 @@ use Rattle.adpcm_nums.specs.Outcome.{Tells, ◌>>=◌}
 use Rattle.host_files.specs.Outside.{World, Files, content_of, grown, raised}
 use Rattle.host_files.specs.declared.named_file.NamedFile.{NamedFile}
 use Rattle.player_model.specs.declared.fault.TrackFault.{TrackFault}
-use Rattle.player_model.specs.Track.{Track, track_of}
+use Rattle.player_model.specs.Track.{Track}
+use Rattle.player_model.specs.BrrTrack.{track_of}
+use Rattle.brr_machine.specs.Brr.{brr}
+use Rattle.player_model.specs.BrrFormat.{brr_format}
 use Rattle.player_model.specs.Sound.{heard}
 use Rattle.snes_directory.specs.declared.fault.ImageFault.{ImageFault}
 use Rattle.snes_directory.specs.declared.image.Image.{Image}
@@ -62,7 +65,7 @@ output_line output = signed_decimal output ++ codes "\n"
 -- the first outputs of the player of a track, one in a line
 unfoldable pub play_lines : Track → ℕ → List ℕ
 play_lines track zero = []
-play_lines track (suc n) = play_lines track n ++ output_line (heard track n)
+play_lines track (suc n) = play_lines track n ++ output_line (heard brr brr_format track n)
 
 -- what the front of a file says of an entry: its first outputs, or the first fault
 unfoldable pub said_of : List ℕ → ℕ → ℕ → List ℕ → Result (List ℕ) Status

@@ -1,11 +1,11 @@
-ghost use Rattle.std.specs.Prelude.{◌≡◌, ◌≢◌, ◌≤◌, ◌∷◌, [], true, length, IfOk, IfErr, Some};
+ghost use Rattle.std.specs.Prelude.{◌≡◌, ◌∷◌, [], length, IfOk, Some};
 ghost use Rattle.adpcm_nums.specs.Sample.{AreSamples};
-ghost use Rattle.host_files.specs.Outside.{Files, Rose};
-ghost use Rattle.command_plan.specs.Ending.{is_device};
+ghost use Rattle.host_files.specs.Outside.{Files};
 ghost use Rattle.command_plan.specs.Promise.{Reaches, Promises};
-ghost use Rattle.command_plan.specs.Steps.{ReadsTo};
+ghost use Rattle.command_plan.specs.Steps.{Keeps, ReadsTo};
 ghost use Rattle.bank_tool.specs.Samples.{samples_of};
 ghost use Rattle.bank_tool.specs.Block.{block_reading, block_course, targets_in, IsBlock, AnswersBlock};
+ghost use Rattle.command_plan.specs.Reading.{status_of};
 
 use adpcm_nums::{Bytes, NoMemory, Text};
 use brr_machine::{encode_zero, spell_block};
@@ -27,8 +27,7 @@ pub fn run_block<H: Host>(alloc: Global, host: &mut H, input: &str, output: &str
     ensures answer { (files : Files) → (H.world host.old).files ≡ Some files →
         AnswersBlock files input.now output.now (H.world host.old) (H.world host.new) result }
     // These hold of a host that tells nothing, too.
-    ensures words { result ≢ Status.Words }
-    ensures device { is_device result ≡ true → Rose (H.world host.old).faults (H.world host.new).faults }
+    ensures keeps { Keeps (H.world host.old) (H.world host.new) result }
 {
     let status = come_block(alloc, host, input, output);
     finish(alloc, host, status)
@@ -36,9 +35,7 @@ pub fn run_block<H: Host>(alloc: Global, host: &mut H, input: &str, output: &str
 
 /// The command `block` up to the line of its status.
 fn come_block<H: Host>(alloc: Global, host: &mut H, input: &str, output: &str) -> Status
-    ensures later { (H.world host.old).faults ≤ (H.world host.new).faults }
-    ensures device { is_device result ≡ true → Rose (H.world host.old).faults (H.world host.new).faults }
-    ensures words { result ≢ Status.Words }
+    ensures keeps { Keeps (H.world host.old) (H.world host.new) result }
     ensures told { (files : Files) → (H.world host.old).files ≡ Some files →
         Reaches (block_course files input.now output.now) (IsBlock (targets_in files input.now) output.now) (H.world host.old) (H.world host.new) result }
 {
@@ -54,17 +51,12 @@ fn come_block<H: Host>(alloc: Global, host: &mut H, input: &str, output: &str) -
 
 /// The sixteen samples of a file.
 fn fetch_samples<H: Host>(alloc: Global, host: &mut H, input: &str) -> Result<[i32; 16], Status>
-    ensures later { (H.world host.old).faults ≤ (H.world host.new).faults }
-    ensures device { IfErr result (λ s. is_device s ≡ true → Rose (H.world host.old).faults (H.world host.new).faults) }
-    ensures words { IfErr result (λ s. s ≢ Status.Words) }
+    ensures keeps { Keeps (H.world host.old) (H.world host.new) (status_of result) }
     ensures told { (files : Files) → (H.world host.old).files ≡ Some files →
         ReadsTo (block_reading files input.now) (H.world host.old) (H.world host.new) result (λ v. v ≡ targets_in files input.now) }
     ensures range { IfOk result (λ v. AreSamples v) }
 {
-    let bytes = match fetch_whole(alloc, host, input, 32, InputFault::BlockLength { len: 33 }) {
-        Ok(bytes) => bytes,
-        Err(status) => return Err(status),
-    };
+    let bytes = fetch_whole(alloc, host, input, 32, InputFault::BlockLength { len: 33 })?;
     let raw = bytes.as_slice();
     if raw.len() != 32 {
         let len = raw.len() as u64;

@@ -1,15 +1,12 @@
-ghost use Rattle.std.specs.Prelude.{◌≡◌, ◌≢◌, ◌≤◌, true, Some};
-ghost use Rattle.std.specs.List.{IsDistinct};
-ghost use Rattle.std.specs.Str.{bytes_eq};
-ghost use Rattle.host_files.specs.Outside.{Files, Rose};
+ghost use Rattle.std.specs.Prelude.{◌≡◌, Some};
+ghost use Rattle.host_files.specs.Outside.{Files};
 ghost use Rattle.machine_core.specs.declared.state.Kind.TheVariants.{Brr};
 ghost use Rattle.manifest_reader.specs.Meaning.{content_of};
-ghost use Rattle.manifest_reader.specs.Ranges.{InRanges};
-ghost use Rattle.manifest_reader.specs.Stored.{stored_names};
-ghost use Rattle.command_plan.specs.Ending.{is_device};
+ghost use Rattle.manifest_reader.specs.Ranges.{InRanges, StoresOnce};
 ghost use Rattle.command_plan.specs.Promise.{Reaches, Promises};
 ghost use Rattle.bank_tool.specs.Compile.{bank_course, bank_choice, compile_course, compile_choice};
 ghost use Rattle.bank_tool.specs.Compiled.{AnswersCompile};
+ghost use Rattle.command_plan.specs.Steps.{Keeps};
 
 use crate::fetch_bank::fetch_sources;
 use crate::fetch_manifest::fetch_manifest;
@@ -33,8 +30,7 @@ pub fn run_compile<H: Host>(alloc: Global, host: &mut H, manifest: &str) -> Stat
     ensures answer { (files : Files) → (H.world host.old).files ≡ Some files →
         AnswersCompile files manifest.now (H.world host.old) (H.world host.new) result }
     // These hold of a host that tells nothing, too.
-    ensures words { result ≢ Status.Words }
-    ensures device { is_device result ≡ true → Rose (H.world host.old).faults (H.world host.new).faults }
+    ensures keeps { Keeps (H.world host.old) (H.world host.new) result }
 {
     let status = come_compile(alloc, host, manifest);
     finish(alloc, host, status)
@@ -42,9 +38,7 @@ pub fn run_compile<H: Host>(alloc: Global, host: &mut H, manifest: &str) -> Stat
 
 /// The command `compile` up to the line of its status.
 fn come_compile<H: Host>(alloc: Global, host: &mut H, name: &str) -> Status
-    ensures later { (H.world host.old).faults ≤ (H.world host.new).faults }
-    ensures device { is_device result ≡ true → Rose (H.world host.old).faults (H.world host.new).faults }
-    ensures words { result ≢ Status.Words }
+    ensures keeps { Keeps (H.world host.old) (H.world host.new) result }
     ensures told { (files : Files) → (H.world host.old).files ≡ Some files →
         Reaches (compile_course files name.now) (compile_choice files name.now) (H.world host.old) (H.world host.new) result }
 {
@@ -57,11 +51,9 @@ fn come_compile<H: Host>(alloc: Global, host: &mut H, name: &str) -> Status
 /// What is done for a manifest that was read, up to the line of its status.
 fn come_bank<H: Host>(alloc: Global, host: &mut H, manifest: &Manifest) -> Status
     requires ranges { InRanges (content_of manifest.now) }
-    requires once { IsDistinct bytes_eq (stored_names manifest.now.kind manifest.now.bank manifest.now.samples.items) }
+    requires once { StoresOnce manifest.now.kind manifest.now.bank manifest.now.samples.items }
     requires kind { manifest.now.kind ≡ Brr }
-    ensures later { (H.world host.old).faults ≤ (H.world host.new).faults }
-    ensures device { is_device result ≡ true → Rose (H.world host.old).faults (H.world host.new).faults }
-    ensures words { result ≢ Status.Words }
+    ensures keeps { Keeps (H.world host.old) (H.world host.new) result }
     ensures told { (files : Files) → (H.world host.old).files ≡ Some files →
         Reaches (bank_course files (content_of manifest.now)) (bank_choice files (content_of manifest.now)) (H.world host.old) (H.world host.new) result }
 {

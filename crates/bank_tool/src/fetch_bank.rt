@@ -1,15 +1,15 @@
-ghost use Rattle.std.specs.Prelude.{◌≡◌, ◌≢◌, ◌+◌, ◌*◌, ◌^◌, ◌≤◌, true, false, length, map, All, IfOk, IfErr, Some, Ok};
+ghost use Rattle.std.specs.Prelude.{◌≡◌, ◌^◌, ◌≤◌, ◌<◌, length, map, All, IfOk, Some, Ok};
 ghost use Rattle.std.specs.List.{sum_by};
 ghost use Rattle.adpcm_nums.specs.Outcome.{Gives};
-ghost use Rattle.host_files.specs.Outside.{Files, Rose};
+ghost use Rattle.host_files.specs.Outside.{Files};
 ghost use Rattle.machine_core.specs.declared.state.Kind.TheVariants.{Brr};
 ghost use Rattle.manifest_reader.specs.declared.manifest.SampleEntry.{SampleEntry};
 ghost use Rattle.manifest_reader.specs.Meaning.{content_of};
-ghost use Rattle.command_plan.specs.Ending.{is_device};
-ghost use Rattle.command_plan.specs.Steps.{ReadsTo};
+ghost use Rattle.command_plan.specs.Steps.{Keeps, IsPlain, ReadsTo};
 ghost use Rattle.bank_tool.specs.declared.source.Source.{Source};
-ghost use Rattle.bank_tool.specs.Compile.{sources_in, sources_reading, bank_end, with_room};
+ghost use Rattle.bank_tool.specs.Compile.{sources_in, sources_reading, with_room};
 ghost use Rattle.bank_tool.specs.Ready.{IsReady};
+ghost use Rattle.command_plan.specs.Reading.{status_of};
 
 use crate::fetch_source::fetch_each;
 use crate::source::Source;
@@ -17,27 +17,20 @@ use command_plan::{Status, full};
 use host_files::Host;
 use loop_fit::FitRule;
 use manifest_reader::Manifest;
+use snes_directory::{end_address, is_past_end};
 use std::alloc::Global;
 
 /// The number of all blocks.
 fn all_blocks(sources: &[Source]) -> u64
     requires { length sources.now ≤ 64 }
     ensures value { result ≡ sum_by (λ s. s.fitted.blocks) sources.now }
-    ensures high { result ≤ 64 * 2 ^ 32 }
+    ensures high { result < 2 ^ 40 }
 {
     let mut all = 0u64;
     for source in sources {
         all += u64::from(source.fitted.blocks);
     }
     all
-}
-
-/// The address behind the last sample.
-fn bank_end(base: u32, sources: &[Source]) -> u64
-    requires { length sources.now ≤ 64 }
-    ensures { result ≡ bank_end base sources.now }
-{
-    u64::from(base) + 4 * sources.len() as u64 + 9 * all_blocks(sources)
 }
 
 /// The samples that fit into sound memory.
@@ -50,12 +43,11 @@ fn with_room(
 ) -> Result<Vec<Source>, Status>
     requires { length sources.items ≤ 64 }
     ensures same { IfOk result (λ v. v ≡ sources) }
-    ensures device { IfErr result (λ s. is_device s ≡ false) }
-    ensures words { IfErr result (λ s. s ≢ Status.Words) }
+    ensures plain { IsPlain (status_of result) }
     ensures value { Gives Status.Memory (λ v. v.items) result (with_room bank.now base sources.items) }
 {
-    let total = bank_end(base, sources.as_slice());
-    if total > 65_536 {
+    let total = end_address(base, sources.len() as u64, all_blocks(sources.as_slice()));
+    if is_past_end(total) {
         return Err(full(alloc, bank, total));
     }
     Ok(sources)
@@ -72,9 +64,7 @@ pub(crate) fn fetch_sources<H: Host>(
     ensures count { IfOk result (λ v. length v.items ≡ length manifest.now.samples.items) }
     ensures ready { IfOk result (λ v. All IsReady v.items) }
     ensures named { IfOk result (λ v. map (λ (s : Source). s.name) v.items ≡ map (λ (e : SampleEntry). e.name) manifest.now.samples.items) }
-    ensures later { (H.world host.old).faults ≤ (H.world host.new).faults }
-    ensures device { IfErr result (λ s. is_device s ≡ true → Rose (H.world host.old).faults (H.world host.new).faults) }
-    ensures words { IfErr result (λ s. s ≢ Status.Words) }
+    ensures keeps { Keeps (H.world host.old) (H.world host.new) (status_of result) }
     ensures told { (files : Files) → (H.world host.old).files ≡ Some files →
         ReadsTo (sources_reading files (content_of manifest.now)) (H.world host.old) (H.world host.new) result (λ v. sources_in files (content_of manifest.now) ≡ Ok v.items) }
 {
@@ -84,9 +74,6 @@ pub(crate) fn fetch_sources<H: Host>(
         length: manifest.length,
         start: manifest.start,
     };
-    let sources = match fetch_each(alloc, host, rule, manifest.samples.as_slice()) {
-        Ok(sources) => sources,
-        Err(status) => return Err(status),
-    };
+    let sources = fetch_each(alloc, host, rule, manifest.samples.as_slice())?;
     with_room(alloc, manifest.bank.as_str(), manifest.base, sources)
 }

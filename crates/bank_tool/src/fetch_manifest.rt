@@ -1,15 +1,11 @@
-ghost use Rattle.std.specs.Prelude.{◌≡◌, ◌≢◌, ◌≤◌, true, false, IfOk, IfErr, Some, Ok};
-ghost use Rattle.std.specs.List.{IsDistinct};
-ghost use Rattle.std.specs.Str.{bytes_eq};
+ghost use Rattle.std.specs.Prelude.{◌≡◌, IfOk, Some, Ok};
 ghost use Rattle.adpcm_nums.specs.Outcome.{Gives, Tells};
-ghost use Rattle.host_files.specs.Outside.{Files, Rose};
+ghost use Rattle.host_files.specs.Outside.{Files};
 ghost use Rattle.machine_core.specs.declared.state.Kind.TheVariants.{Brr};
 ghost use Rattle.manifest_reader.specs.Meaning.{content_of};
-ghost use Rattle.manifest_reader.specs.Ranges.{InRanges};
-ghost use Rattle.manifest_reader.specs.Stored.{stored_names};
-ghost use Rattle.command_plan.specs.Ending.{is_device};
-ghost use Rattle.command_plan.specs.Reading.{tested_reading};
-ghost use Rattle.command_plan.specs.Steps.{ReadsTo};
+ghost use Rattle.manifest_reader.specs.Ranges.{InRanges, StoresOnce};
+ghost use Rattle.command_plan.specs.Reading.{status_of, tested_reading};
+ghost use Rattle.command_plan.specs.Steps.{Keeps, IsPlain, ReadsTo};
 ghost use Rattle.bank_tool.specs.Source.{brr_alone, manifest_in};
 ghost use Rattle.bank_tool.specs.Compile.{meaning_in};
 
@@ -35,8 +31,7 @@ fn manifest_refused(fault: ManifestFault) -> Status
 fn brr_alone(alloc: Global, manifest: Manifest) -> Result<Manifest, Status>
     ensures same { IfOk result (λ m. m ≡ manifest) }
     ensures kind { IfOk result (λ m. m.kind ≡ Brr) }
-    ensures device { IfErr result (λ s. is_device s ≡ false) }
-    ensures words { IfErr result (λ s. s ≢ Status.Words) }
+    ensures plain { IsPlain (status_of result) }
     ensures value { Gives Status.Memory content_of result (brr_alone (content_of manifest)) }
 {
     match manifest.kind {
@@ -54,10 +49,9 @@ fn brr_alone(alloc: Global, manifest: Manifest) -> Result<Manifest, Status>
 #[tactic(auto, unfolding(crate::specs::Source::manifest_in))]
 fn manifest_in(alloc: Global, own: &str, bytes: &[u8]) -> Result<Manifest, Status>
     ensures ranges { IfOk result (λ m. InRanges (content_of m)) }
-    ensures once { IfOk result (λ m. IsDistinct bytes_eq (stored_names m.kind m.bank m.samples.items)) }
+    ensures once { IfOk result (λ m. StoresOnce m.kind m.bank m.samples.items) }
     ensures kind { IfOk result (λ m. m.kind ≡ Brr) }
-    ensures device { IfErr result (λ s. is_device s ≡ false) }
-    ensures words { IfErr result (λ s. s ≢ Status.Words) }
+    ensures plain { IsPlain (status_of result) }
     ensures value { Gives Status.Memory content_of result (manifest_in own.now bytes.now) }
 {
     match read_manifest(alloc, bytes, own) {
@@ -73,17 +67,12 @@ pub(crate) fn fetch_manifest<H: Host>(
     name: &str,
 ) -> Result<Manifest, Status>
     ensures ranges { IfOk result (λ m. InRanges (content_of m)) }
-    ensures once { IfOk result (λ m. IsDistinct bytes_eq (stored_names m.kind m.bank m.samples.items)) }
+    ensures once { IfOk result (λ m. StoresOnce m.kind m.bank m.samples.items) }
     ensures kind { IfOk result (λ m. m.kind ≡ Brr) }
-    ensures later { (H.world host.old).faults ≤ (H.world host.new).faults }
-    ensures device { IfErr result (λ s. is_device s ≡ true → Rose (H.world host.old).faults (H.world host.new).faults) }
-    ensures words { IfErr result (λ s. s ≢ Status.Words) }
+    ensures keeps { Keeps (H.world host.old) (H.world host.new) (status_of result) }
     ensures told { (files : Files) → (H.world host.old).files ≡ Some files →
         ReadsTo (tested_reading name.now (meaning_in files name.now)) (H.world host.old) (H.world host.new) result (λ m. meaning_in files name.now ≡ Ok (content_of m)) }
 {
-    let bytes = match fetch_front(alloc, host, name, 65_536) {
-        Ok(bytes) => bytes,
-        Err(status) => return Err(status),
-    };
+    let bytes = fetch_front(alloc, host, name, 65_536)?;
     manifest_in(alloc, name, bytes.as_slice())
 }

@@ -1,9 +1,8 @@
-ghost use Rattle.std.specs.Prelude.{◌≡◌, ◌≢◌, ◌≤◌, true, length, map, All, IfOk, IfErr, Some, Ok};
-ghost use Rattle.host_files.specs.Outside.{Files, Rose};
+ghost use Rattle.std.specs.Prelude.{◌≡◌, length, map, All, IfOk, Some, Ok};
+ghost use Rattle.host_files.specs.Outside.{Files};
 ghost use Rattle.machine_core.specs.declared.state.Kind.TheVariants.{Brr};
-ghost use Rattle.command_plan.specs.Ending.{is_device};
-ghost use Rattle.command_plan.specs.Reading.{read_each};
-ghost use Rattle.command_plan.specs.Steps.{ReadsTo};
+ghost use Rattle.command_plan.specs.Reading.{status_of, read_each};
+ghost use Rattle.command_plan.specs.Steps.{Keeps, ReadsTo};
 ghost use Rattle.bank_tool.specs.Compile.{each_of, source_in, source_reading};
 ghost use Rattle.manifest_reader.specs.declared.manifest.SampleEntry.{SampleEntry};
 ghost use Rattle.bank_tool.specs.declared.source.Source.{Source};
@@ -28,16 +27,11 @@ fn fetch_source<H: Host>(
     requires block { rule.block ≡ 16 }
     ensures ready { IfOk result IsReady }
     ensures named { IfOk result (λ s. s.name ≡ entry.now.name) }
-    ensures later { (H.world host.old).faults ≤ (H.world host.new).faults }
-    ensures device { IfErr result (λ s. is_device s ≡ true → Rose (H.world host.old).faults (H.world host.new).faults) }
-    ensures words { IfErr result (λ s. s ≢ Status.Words) }
+    ensures keeps { Keeps (H.world host.old) (H.world host.new) (status_of result) }
     ensures told { (files : Files) → (H.world host.old).files ≡ Some files →
         ReadsTo (source_reading files rule entry.now) (H.world host.old) (H.world host.new) result (λ v. source_in files rule entry.now ≡ Ok v) }
 {
-    let bytes = match fetch_front(alloc, host, entry.file.as_str(), 4_194_304) {
-        Ok(bytes) => bytes,
-        Err(status) => return Err(status),
-    };
+    let bytes = fetch_front(alloc, host, entry.file.as_str(), 4_194_304)?;
     read_source(alloc, rule, entry, bytes.as_slice())
 }
 
@@ -53,18 +47,13 @@ pub(crate) fn fetch_each<H: Host>(
     ensures count { IfOk result (λ v. length v.items ≡ length entries.now) }
     ensures ready { IfOk result (λ v. All IsReady v.items) }
     ensures named { IfOk result (λ v. map (λ (s : Source). s.name) v.items ≡ map (λ (e : SampleEntry). e.name) entries.now) }
-    ensures later { (H.world host.old).faults ≤ (H.world host.new).faults }
-    ensures device { IfErr result (λ s. is_device s ≡ true → Rose (H.world host.old).faults (H.world host.new).faults) }
-    ensures words { IfErr result (λ s. s ≢ Status.Words) }
+    ensures keeps { Keeps (H.world host.old) (H.world host.new) (status_of result) }
     ensures told { (files : Files) → (H.world host.old).files ≡ Some files →
         ReadsTo (read_each (source_reading files rule) entries.now) (H.world host.old) (H.world host.new) result (λ v. each_of (source_in files rule) entries.now ≡ Ok v.items) }
 {
     let mut sources = Vec::new(alloc);
     for entry in entries {
-        let source = match fetch_source(alloc, host, rule, entry) {
-            Ok(source) => source,
-            Err(status) => return Err(status),
-        };
+        let source = fetch_source(alloc, host, rule, entry)?;
         match sources.push(source) {
             Ok(()) => {}
             Err(_) => return Err(Status::Memory),

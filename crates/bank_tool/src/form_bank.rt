@@ -1,11 +1,10 @@
 ghost use Rattle.std.specs.Prelude.{◌≡◌, ◌≤◌, length, map, All, IfOk};
-ghost use Rattle.std.specs.List.{AllZip, IsDistinct};
-ghost use Rattle.std.specs.Str.{bytes_eq};
+ghost use Rattle.std.specs.List.{AllZip};
 ghost use Rattle.machine_core.specs.declared.state.Kind.TheVariants.{Brr};
 ghost use Rattle.manifest_reader.specs.declared.manifest.SampleEntry.{SampleEntry};
 ghost use Rattle.manifest_reader.specs.Meaning.{content_of};
-ghost use Rattle.manifest_reader.specs.Ranges.{IsWithin};
-ghost use Rattle.manifest_reader.specs.Stored.{stored_names};
+ghost use Rattle.manifest_reader.specs.Ranges.{IsWithin, StoresOnce};
+ghost use Rattle.bank_compile.specs.Kinds.{brr_codec};
 ghost use Rattle.bank_compile.specs.Bank.{IsOut};
 ghost use Rattle.bank_tool.specs.declared.source.Source.{Source};
 ghost use Rattle.bank_tool.specs.Compile.{IsMadeOf, IsBank};
@@ -22,8 +21,8 @@ use std::alloc::Global;
 /// One source, compiled.
 fn compile_source(alloc: Global, manifest: &Manifest, source: Source) -> Result<SampleOut, NoMemory>
     requires { IsReady source }
-    ensures made { IfOk result (IsMadeOf manifest.now.kind source) }
-    ensures out { IfOk result IsOut }
+    ensures made { IfOk result (IsMadeOf source) }
+    ensures out { IfOk result (IsOut brr_codec) }
     ensures bound { IfOk result (λ out. out.report.bound ≤ out.report.error) }
 {
     let Source { name, rate, fitted } = source;
@@ -38,8 +37,8 @@ fn compile_all(
 ) -> Result<Vec<SampleOut>, NoMemory>
     requires { All IsReady sources.items }
     ensures count { IfOk result (λ outs. length outs.items ≡ length sources.items) }
-    ensures made { IfOk result (λ outs. AllZip (IsMadeOf manifest.now.kind) sources.items outs.items) }
-    ensures outs { IfOk result (λ outs. All IsOut outs.items) }
+    ensures made { IfOk result (λ outs. AllZip IsMadeOf sources.items outs.items) }
+    ensures outs { IfOk result (λ outs. All (IsOut brr_codec) outs.items) }
     ensures bounds { IfOk result (λ outs. All (λ out. out.report.bound ≤ out.report.error) outs.items) }
 {
     let mut outs = Vec::new(alloc);
@@ -67,7 +66,7 @@ pub(crate) fn form_bank(
     requires ready { All IsReady sources.items }
     requires kind { manifest.now.kind ≡ Brr }
     requires named { map (λ (s : Source). s.name) sources.items ≡ map (λ (e : SampleEntry). e.name) manifest.now.samples.items }
-    requires once { IsDistinct bytes_eq (stored_names manifest.now.kind manifest.now.bank manifest.now.samples.items) }
+    requires once { StoresOnce manifest.now.kind manifest.now.bank manifest.now.samples.items }
     ensures { IfOk result (λ r. IsBank (content_of manifest.now) sources.items r.0.items r.1) }
 {
     stored_bank_replays();

@@ -35,4 +35,8 @@ mod compile_tests;
 #[cfg(test)]
 mod play_tests;
 #[cfg(test)]
+mod test_files;
+#[cfg(test)]
+mod test_words;
+#[cfg(test)]
 mod tests;

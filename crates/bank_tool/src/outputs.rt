@@ -128,14 +128,8 @@ pub(crate) fn said_of(
     requires { length front.now < 2 ^ 31 }
     ensures { Gives Status.Memory (λ lines. lines) result (said_of file.now entry count front.now) }
 {
-    let image = match image_in(alloc, file, front) {
-        Ok(image) => image,
-        Err(status) => return Err(status),
-    };
-    let track = match track_in(alloc, file, &image, entry) {
-        Ok(track) => track,
-        Err(status) => return Err(status),
-    };
+    let image = image_in(alloc, file, front)?;
+    let track = track_in(alloc, file, &image, entry)?;
     match play_lines(alloc, track, count) {
         Ok(lines) => Ok(lines),
         Err(NoMemory) => Err(Status::Memory),

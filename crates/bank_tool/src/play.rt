@@ -1,10 +1,10 @@
-ghost use Rattle.std.specs.Prelude.{◌≡◌, ◌≢◌, ◌≤◌, true, IfErr, Some, Ok};
+ghost use Rattle.std.specs.Prelude.{◌≡◌, Some, Ok};
 ghost use Rattle.machine_core.specs.declared.state.Kind.{Kind};
-ghost use Rattle.host_files.specs.Outside.{Files, Rose};
-ghost use Rattle.command_plan.specs.Ending.{is_device};
+ghost use Rattle.host_files.specs.Outside.{Files};
 ghost use Rattle.command_plan.specs.Promise.{Reaches, Promises};
-ghost use Rattle.command_plan.specs.Steps.{ReadsTo};
+ghost use Rattle.command_plan.specs.Steps.{Keeps, ReadsTo};
 ghost use Rattle.bank_tool.specs.Play.{said_in, play_reading, play_course, IsPlayed, AnswersPlay};
+ghost use Rattle.command_plan.specs.Reading.{status_of};
 
 use crate::outputs::said_of;
 use adpcm_nums::Text;
@@ -32,8 +32,7 @@ pub fn run_play<H: Host>(
     ensures answer { (files : Files) → (H.world host.old).files ≡ Some files →
         AnswersPlay files file.now entry count (H.world host.old) (H.world host.new) result }
     // These hold of a host that tells nothing, too.
-    ensures words { result ≢ Status.Words }
-    ensures device { is_device result ≡ true → Rose (H.world host.old).faults (H.world host.new).faults }
+    ensures keeps { Keeps (H.world host.old) (H.world host.new) result }
 {
     let status = come_play(alloc, host, file, entry, count);
     finish(alloc, host, status)
@@ -41,9 +40,7 @@ pub fn run_play<H: Host>(
 
 /// The command `play` up to the line of its status.
 fn come_play<H: Host>(alloc: Global, host: &mut H, file: &str, entry: u32, count: u32) -> Status
-    ensures later { (H.world host.old).faults ≤ (H.world host.new).faults }
-    ensures device { is_device result ≡ true → Rose (H.world host.old).faults (H.world host.new).faults }
-    ensures words { result ≢ Status.Words }
+    ensures keeps { Keeps (H.world host.old) (H.world host.new) result }
     ensures told { (files : Files) → (H.world host.old).files ≡ Some files →
         Reaches (play_course files file.now entry count) (IsPlayed (said_in files file.now entry count)) (H.world host.old) (H.world host.new) result }
 {
@@ -65,15 +62,10 @@ fn fetch_outputs<H: Host>(
     entry: u32,
     count: u32,
 ) -> Result<Text, Status>
-    ensures later { (H.world host.old).faults ≤ (H.world host.new).faults }
-    ensures device { IfErr result (λ s. is_device s ≡ true → Rose (H.world host.old).faults (H.world host.new).faults) }
-    ensures words { IfErr result (λ s. s ≢ Status.Words) }
+    ensures keeps { Keeps (H.world host.old) (H.world host.new) (status_of result) }
     ensures told { (files : Files) → (H.world host.old).files ≡ Some files →
         ReadsTo (play_reading files file.now entry count) (H.world host.old) (H.world host.new) result (λ lines. said_in files file.now entry count ≡ Ok lines) }
 {
-    let front = match fetch_front(alloc, host, file, 8_388_608) {
-        Ok(front) => front,
-        Err(status) => return Err(status),
-    };
+    let front = fetch_front(alloc, host, file, 8_388_608)?;
     said_of(alloc, file, front.as_slice(), entry, count)
 }

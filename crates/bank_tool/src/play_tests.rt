@@ -1,4 +1,5 @@
 use super::{Command, Status, read_words, run, run_play};
+use crate::test_words::words;
 use host_files::{MemoryHost, SteadyHost};
 use machine_core::Kind;
 use std::alloc::Global;
@@ -13,14 +14,10 @@ const FADING: [u8; 42] = [
 ];
 
 /// What the words say over a file `b`.
-fn said_of(alloc: Global, bytes: &[u8], words: &[&str]) -> Result<(u8, String), Fail> {
-    let mut texts = Vec::new(alloc);
-    for word in words {
-        texts.push(String::from_str(alloc, word)?)?;
-    }
+fn said_of(alloc: Global, bytes: &[u8], texts: &[&str]) -> Result<(u8, String), Fail> {
     let mut host = SteadyHost::new(alloc);
     host.put("b", bytes).map_err(|_| "memory")?;
-    let status = run(alloc, &mut host, texts.as_slice());
+    let status = run(alloc, &mut host, words(alloc, texts)?.as_slice());
     let said = std::str::from_utf8(host.said()).map_err(|_| "no text")?;
     Ok((status.code(), String::from_str(alloc, said)?))
 }
@@ -57,14 +54,28 @@ fn says_nothing_for_no_outputs(rt: HostRuntime) -> Result<(), Fail> {
 }
 
 #[test]
-fn refuses_files(rt: HostRuntime) -> Result<(), Fail> {
+fn tells_the_fault_of_an_image(rt: HostRuntime) -> Result<(), Fail> {
     let alloc = rt.alloc();
-    let (code, said) = said_of(alloc, &FADING, &["play", "brr", "b", "1", "5"])?;
-    assert_eq!(rt; code, 4);
-    assert_eq!(rt; said.as_str(), "fault 4 b NoEntry 1 1\n");
-    let (code, said) = said_of(alloc, &FADING[..41], &["play", "brr", "b", "1", "5"])?;
-    assert_eq!(rt; code, 4);
-    assert_eq!(rt; said.as_str(), "fault 4 b ImageLength 41 42\n");
+    for (place, byte, line) in [
+        (3, b'J', "fault 4 b NotImage\n"),
+        (4, 2, "fault 4 b BadVersion 2\n"),
+        (6, 0, "fault 4 b BadEntries 0\n"),
+        (6, 65, "fault 4 b BadEntries 65\n"),
+        (8, 1, "fault 4 b BadBase 513\n"),
+        (14, 1, "fault 4 b ImageFull 66070\n"),
+        (12, 23, "fault 4 b ImageLength 42 43\n"),
+        (19, 1, "fault 4 b BadRate 0 16809216\n"),
+        (21, 1, "fault 4 b BadEntry 0\n"),
+        (33, 6, "fault 4 b BadEntry 0\n"),
+        (22, 5, "fault 4 b BadLoopAddress 0\n"),
+        (0, b'S', "fault 4 b NoEntry 1 1\n"),
+    ] {
+        let mut bytes = FADING;
+        *bytes.get_mut(place).ok_or("a place")? = byte;
+        let (code, said) = said_of(alloc, &bytes, &["play", "brr", "b", "1", "5"])?;
+        assert_eq!(rt; code, 4);
+        assert_eq!(rt; said.as_str(), line);
+    }
     let (code, said) = said_of(alloc, &FADING, &["play", "brr", "c", "0", "0"])?;
     assert_eq!(rt; code, 4);
     assert_eq!(rt; said.as_str(), "fault 4 c NotImage\n");
@@ -96,7 +107,7 @@ fn refuses_long_entries(rt: HostRuntime) -> Result<(), Fail> {
 #[test]
 fn reads_numbers_as_words(rt: HostRuntime) -> Result<(), Fail> {
     let alloc = rt.alloc();
-    for words in [
+    for texts in [
         ["play", "brr", "b", "00", "5"],
         ["play", "brr", "b", "0", "05"],
         ["play", "brr", "b", "64", "5"],
@@ -107,14 +118,11 @@ fn reads_numbers_as_words(rt: HostRuntime) -> Result<(), Fail> {
         ["play", "vag", "b", "0", "5"],
         ["Play", "brr", "b", "0", "5"],
     ] {
-        let (code, said) = said_of(alloc, &FADING, &words)?;
+        let (code, said) = said_of(alloc, &FADING, &texts)?;
         assert_eq!(rt; code, 2);
         assert_eq!(rt; said.as_str(), "fault 2 words\n");
     }
-    let mut words = Vec::new(alloc);
-    for word in ["play", "brr", "b-", "63", "1000000"] {
-        words.push(String::from_str(alloc, word)?)?;
-    }
+    let words = words(alloc, &["play", "brr", "b-", "63", "1000000"])?;
     let Some(
         Command::Play {
             kind,

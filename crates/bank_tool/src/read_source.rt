@@ -1,12 +1,14 @@
-ghost use Rattle.std.specs.Prelude.{◌≡◌, ◌≢◌, ◌≤◌, false, length, IfOk, IfErr, IfSome};
+ghost use Rattle.std.specs.Prelude.{◌≡◌, ◌≤◌, length, IfOk, IfSome};
 ghost use Rattle.adpcm_nums.specs.Outcome.{Gives, Tells};
 ghost use Rattle.adpcm_nums.specs.Sample.{AreSamples};
 ghost use Rattle.machine_core.specs.declared.state.Kind.TheVariants.{Brr};
 ghost use Rattle.loop_fit.specs.Source.{IsLoopIn};
-ghost use Rattle.bank_compile.specs.Sample.{IsBrrFit};
-ghost use Rattle.command_plan.specs.Ending.{is_device};
+ghost use Rattle.bank_compile.specs.Kinds.{brr_codec};
+ghost use Rattle.bank_compile.specs.Sample.{IsFit};
 ghost use Rattle.bank_tool.specs.Source.{sound_in, loop_in, fit_in, source_of};
 ghost use Rattle.bank_tool.specs.Ready.{IsReady};
+ghost use Rattle.command_plan.specs.Steps.{IsPlain};
+ghost use Rattle.command_plan.specs.Reading.{status_of};
 
 use crate::source::Source;
 use adpcm_nums::{LoopAt, Text};
@@ -47,8 +49,7 @@ fn read_sound(alloc: Global, entry: &SampleEntry, bytes: &[u8]) -> Result<Wave, 
     ensures high_rate { IfOk result (λ wave. wave.rate ≤ 1000000) }
     ensures range { IfOk result (λ wave. AreSamples wave.samples) }
     ensures count { IfOk result (λ wave. length wave.samples ≤ 4194304) }
-    ensures device { IfErr result (λ s. is_device s ≡ false) }
-    ensures words { IfErr result (λ s. s ≢ Status.Words) }
+    ensures plain { IsPlain (status_of result) }
     ensures value { Gives Status.Memory (λ wave. wave) result (sound_in entry.now bytes.now) }
 {
     let name = entry.name.as_str();
@@ -66,8 +67,7 @@ fn read_sound(alloc: Global, entry: &SampleEntry, bytes: &[u8]) -> Result<Wave, 
 fn read_loop(alloc: Global, entry: &SampleEntry, wave: &Wave) -> Result<Option<LoopAt>, Status>
     requires { length wave.now.samples ≤ 4194304 }
     ensures inside { IfOk result (λ at. IfSome at (IsLoopIn (length wave.now.samples))) }
-    ensures device { IfErr result (λ s. is_device s ≡ false) }
-    ensures words { IfErr result (λ s. s ≢ Status.Words) }
+    ensures plain { IsPlain (status_of result) }
     ensures value { Gives Status.Memory (λ at. at) result (loop_in entry.now wave.now) }
 {
     if !entry.looped {
@@ -101,9 +101,8 @@ fn fit_sound(
     requires count { length wave.now.samples ≤ 4194304 }
     requires range { AreSamples wave.now.samples }
     requires inside { IfSome at (IsLoopIn (length wave.now.samples)) }
-    ensures fit { IfOk result IsBrrFit }
-    ensures device { IfErr result (λ s. is_device s ≡ false) }
-    ensures words { IfErr result (λ s. s ≢ Status.Words) }
+    ensures fit { IfOk result (IsFit brr_codec) }
+    ensures plain { IsPlain (status_of result) }
     ensures value { Gives Status.Memory (λ fitted. fitted) result (fit_in rule entry.now wave.now at) }
 {
     fit_is_brr();
@@ -125,22 +124,12 @@ pub(crate) fn read_source(
     requires block { rule.block ≡ 16 }
     ensures ready { IfOk result IsReady }
     ensures named { IfOk result (λ s. s.name ≡ entry.now.name) }
-    ensures device { IfErr result (λ s. is_device s ≡ false) }
-    ensures words { IfErr result (λ s. s ≢ Status.Words) }
+    ensures plain { IsPlain (status_of result) }
     ensures value { Gives Status.Memory (λ source. source) result (source_of rule entry.now bytes.now) }
 {
-    let wave = match read_sound(alloc, entry, bytes) {
-        Ok(wave) => wave,
-        Err(status) => return Err(status),
-    };
-    let at = match read_loop(alloc, entry, &wave) {
-        Ok(at) => at,
-        Err(status) => return Err(status),
-    };
-    let fitted = match fit_sound(alloc, rule, entry, &wave, at) {
-        Ok(fitted) => fitted,
-        Err(status) => return Err(status),
-    };
+    let wave = read_sound(alloc, entry, bytes)?;
+    let at = read_loop(alloc, entry, &wave)?;
+    let fitted = fit_sound(alloc, rule, entry, &wave, at)?;
     match Text::copy_of(alloc, entry.name.as_str()) {
         Ok(name) => Ok(Source {
             name,

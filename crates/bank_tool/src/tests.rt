@@ -1,4 +1,5 @@
 use super::{Command, Status, read_words, run, run_block};
+use crate::test_words::words;
 use host_files::{MemoryHost, SteadyHost};
 use std::alloc::Global;
 use std::test::Fail;
@@ -11,14 +12,6 @@ fn raw_block(alloc: Global, low: u8, high: u8) -> Result<Vec<u8>, Fail> {
         bytes.push(high)?;
     }
     Ok(bytes)
-}
-
-fn words(alloc: Global, texts: &[&str]) -> Result<Vec<String>, Fail> {
-    let mut words = Vec::new(alloc);
-    for text in texts {
-        words.push(String::from_str(alloc, text)?)?;
-    }
-    Ok(words)
 }
 
 #[test]

@@ -1,8 +1,9 @@
-ghost use Rattle.std.specs.Prelude.{◌≡◌, ◌≢◌, ℕ, List, true, false, map, string_bytes, IsSome, Some, None};
+ghost use Rattle.std.specs.Prelude.{◌≡◌, ℕ, List, true, false, map, string_bytes, IsSome, Some, None};
 ghost use Rattle.adpcm_nums.specs.Outcome.{Tells};
 ghost use Rattle.machine_core.specs.declared.state.Kind.{Kind};
 ghost use Rattle.host_files.specs.Outside.{Files, Rose};
 ghost use Rattle.command_plan.specs.Ending.{is_device};
+ghost use Rattle.command_plan.specs.Steps.{Keeps};
 ghost use Rattle.command_plan.specs.Promise.{Promises, Finishes};
 ghost use Rattle.bank_tool.specs.Words.{command_of};
 ghost use Rattle.bank_tool.specs.Block.{AnswersBlock};
@@ -61,8 +62,7 @@ fn obey<H: Host>(alloc: Global, host: &mut H, command: &Command) -> Status
     requires { PlaysBrr command.now }
     ensures told { (files : Files) → (H.world host.old).files ≡ Some files →
         Promises (course_of (Some command.now) files) (choice_of (Some command.now) files) (H.world host.old) (H.world host.new) result }
-    ensures words { result ≢ Status.Words }
-    ensures device { is_device result ≡ true → Rose (H.world host.old).faults (H.world host.new).faults }
+    ensures keeps { Keeps (H.world host.old) (H.world host.new) result }
 {
     match command {
         Command::Block { input, output } => {

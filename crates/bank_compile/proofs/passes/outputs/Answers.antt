@@ -16,7 +16,7 @@ step-state-requires-clause-from g c =
     let laws = g.met.M.Machine.lawful c.args.machine.now in
     let count = ap (λ n. c.args.blocks * n) c.block_samples-samples.ensures in
     subst (λ (s : State). IsTrue (r.decoder.is_state s)) (sym c.loop-i.invariant.state)
-    (states r laws c.args.blocks c.args.loop_block (list_of c.args.choice.now) c.requires.legal start laws.start_fits c.loop-i.i (omega arith))
+    (states r laws c.args.blocks (list_of c.args.choice.now) c.requires.in_range start laws.start_fits c.loop-i.i (omega arith))
 
 pub scaled-requires : goal.scaled-requires
 scaled-requires g c =
@@ -25,7 +25,7 @@ scaled-requires g c =
     let count = ap (λ n. c.args.blocks * n) c.block_samples-samples.ensures in
     let next = state-next r.decoder (list_of c.args.choice.now) c.block_samples-samples.result c.loop-i.i _ _ _ _ c.as_slice-heads.ensures c.as_slice-symbols.ensures
     c.block_samples-samples.ensures c.loop-i.invariant.state c.step-state.ensures in
-    let is_state = states r laws c.args.blocks c.args.loop_block (list_of c.args.choice.now) c.requires.legal start laws.start_fits (c.loop-i.i + 1) (omega arith) in
+    let is_state = states r laws c.args.blocks (list_of c.args.choice.now) c.requires.in_range start laws.start_fits (c.loop-i.i + 1) (omega arith) in
     let fits : SFits w32 c.args.scale = search rules in
     simp to_z-of_z (c.requires.range _ (subst (λ (s : State). IsTrue (r.decoder.is_state s)) (sym next) is_state))
 

@@ -7,7 +7,7 @@ pub returns-clause-told : goal.returns-clause-told
 returns-clause-told g c = λ files told.
     promised (block_course files c.args.input.now c.args.output.now) (IsBlock (targets_in files c.args.input.now) c.args.output.now)
     (g.H.Host.world c.args.host.now) (g.H.Host.world c.come_block-status.new.host) (g.H.Host.world c.finish.new.host) _ _
-    c.come_block-status.ensures.later (c.come_block-status.ensures.told files told) c.finish.ensures
+    c.come_block-status.ensures.keeps.later (c.come_block-status.ensures.told files told) c.finish.ensures
 
 pub returns-clause-answer : goal.returns-clause-answer
 returns-clause-answer g c = λ files told.

@@ -20,4 +20,4 @@ returns-in-Ok-form_bank-clause-told g c = λ files told.
     let got = c.in-Ok.ensures.told files told in
     stored_bank files (content_of c.args.manifest.now) c.in-Ok.sources.items c.in-Ok-form_bank.files.items c.as_slice.result.now c.in-Ok-form_bank.line c.as_str.result.now
     (g.H.Host.world c.args.host.now) (g.H.Host.world c.fetch_sources.new.host) (g.H.Host.world c.write_out.new.host) c.write_out.result
-    c.as_slice.ensures.value c.as_str.ensures got.0 got.1 c.in-Ok.ensures.named c.in-Ok-form_bank.ensures c.write_out.ensures.told
+    c.as_slice.ensures.value c.as_str.ensures got.0 got.1 c.in-Ok-form_bank.ensures c.write_out.ensures.told

@@ -7,8 +7,8 @@ pub returns-clause-told : goal.returns-clause-told
 returns-clause-told g c = λ files told.
     promised (compile_course files c.args.manifest.now) (compile_choice files c.args.manifest.now)
     (g.H.Host.world c.args.host.now) (g.H.Host.world c.come_compile-status.new.host) (g.H.Host.world c.finish.new.host) _ _
-    c.come_compile-status.ensures.later (c.come_compile-status.ensures.told files told) c.finish.ensures
+    c.come_compile-status.ensures.keeps.later (c.come_compile-status.ensures.told files told) c.finish.ensures
 
 pub returns-clause-answer : goal.returns-clause-answer
 returns-clause-answer g c = λ files told.
-    answers_compile files c.args.manifest.now (g.H.Host.world c.args.host.now) (g.H.Host.world c.finish.new.host) c.finish.result (returns-clause-told g c files told)
+    answers_compile files c.args.manifest.now (g.H.Host.world c.args.host.now) (g.H.Host.world c.finish.new.host) c.finish.result told (returns-clause-told g c files told)

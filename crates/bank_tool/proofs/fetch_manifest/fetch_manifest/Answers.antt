@@ -10,8 +10,8 @@ use Rattle.bank_tool.proofs.fetch_manifest.fetch_manifest.Goals as goal
 
 pub returns-clause-told : goal.returns-clause-told
 returns-clause-told g c = λ files told.
-    let got = c.in-Ok.ensures.told files told in
-    let front : c.as_slice.result.now ≡ front_in files c.args.name.now 65536 = c.as_slice.ensures.value ∙ is_front files c.args.name.now c.in-Ok.bytes.items 65536 got.1 in
+    let got = c.in_ok-bytes.ensures.told files told in
+    let front : c.as_slice.result.now ≡ front_in files c.args.name.now 65536 = c.as_slice.ensures.value ∙ is_front files c.args.name.now c.in_ok-bytes.bytes.items 65536 got.1 in
     tested c.args.name.now content_of c.manifest_in.result (meaning_in files c.args.name.now) (g.H.Host.world c.args.host.now) (g.H.Host.world c.fetch_front.new.host)
     got.0 (manifest-declines c.args.name.now _)
     (subst (λ (bs : List ℕ). Gives Memory content_of c.manifest_in.result (manifest_in c.args.name.now bs)) front c.manifest_in.ensures.value)

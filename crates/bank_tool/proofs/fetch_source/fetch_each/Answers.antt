@@ -1,4 +1,5 @@
 use Rattle.std.proofs.Common.{◌≡◌, refl, sym, subst, ◌∙◌, ap, arith, List, take, length, map, All, Ok}
+use Rattle.std.proofs.lemmas.Result.{err_from_is_err_and}
 use Rattle.std.specs.List.{AllZip}
 use Rattle.std.proofs.lemmas.Option.{slice_get_read}
 use Rattle.std.proofs.lemmas.List.{take_all}
@@ -22,33 +23,35 @@ loop-entry-init g c = record {
   told = λ files told. (reads_none (source_reading files c.args.rule) (g.H.Host.world c.args.host.now), zip_none (λ e s. source_in files c.args.rule e ≡ Ok s) c.new-sources.result.items c.new-sources.ensures.items);
 }
 
+pub returns-in_err-source-clause-told : goal.returns-in_err-source-clause-told
+returns-in_err-source-clause-told g c = λ files told.
+    let p = err_from_is_err_and c.from_residual.result c.from_residual.ensures.1 in
+    let at = slice_get_read c.args.entries.now _ c.loop-entry.entry-index c.entry-item.result refl (omega arith) c.entry-item.is in
+    let before = c.loop-entry.invariant.told files told in
+    rw (p.1, p.2) (
+    each_halts (source_reading files c.args.rule) c.args.entries.now c.loop-entry.entry-index c.entry-item.result (g.H.Host.world c.args.host.now) (g.H.Host.world c.loop-entry.host) (g.H.Host.world c.fetch_source.new.host) _ at before.0
+    (c.in_err-source.ensures.told files (before.0.quiet.files ∙ told)))
+
 pub returns-in-Err-clause-told : goal.returns-in-Err-clause-told
 returns-in-Err-clause-told g c = λ files told.
     let at = slice_get_read c.args.entries.now _ c.loop-entry.entry-index c.entry-item.result refl (omega arith) c.entry-item.is in
     let before = c.loop-entry.invariant.told files told in
-    each_halts (source_reading files c.args.rule) c.args.entries.now c.loop-entry.entry-index c.entry-item.result (g.H.Host.world c.args.host.now) (g.H.Host.world c.loop-entry.host) (g.H.Host.world c.fetch_source.new.host) _ at before.0
-    (c.in-Err.ensures.told files (before.0.quiet.files ∙ told))
-
-pub returns-in-Err-push-clause-told : goal.returns-in-Err-push-clause-told
-returns-in-Err-push-clause-told g c = λ files told.
-    let at = slice_get_read c.args.entries.now _ c.loop-entry.entry-index c.entry-item.result refl (omega arith) c.entry-item.is in
-    let before = c.loop-entry.invariant.told files told in
-    let got = c.in-Ok.ensures.told files (before.0.quiet.files ∙ told) in
+    let got = c.in_ok-source.ensures.told files (before.0.quiet.files ∙ told) in
     each_short (source_reading files c.args.rule) c.args.entries.now c.loop-entry.entry-index c.entry-item.result (g.H.Host.world c.args.host.now) (g.H.Host.world c.loop-entry.host) (g.H.Host.world c.fetch_source.new.host) at before.0 got.0
 
 pub loop-entry-preserved : goal.loop-entry-preserved
 loop-entry-preserved g c =
     let at = slice_get_read c.args.entries.now _ c.loop-entry.entry-index c.entry-item.result refl (omega arith) c.entry-item.is in
     record {
-      count = count_more c.loop-entry.sources.items c.push.new.self.items c.loop-entry.entry-index c.in-Ok.source c.in-Ok-push.ensures.items c.loop-entry.invariant.count;
-      named = alike_more (λ (s : Source). s.name) (λ (e : SampleEntry). e.name) c.args.entries.now c.loop-entry.sources.items c.push.new.self.items c.loop-entry.entry-index c.entry-item.result c.in-Ok.source at c.in-Ok-push.ensures.items c.loop-entry.invariant.named c.in-Ok.ensures.named;
-      ready = subst (λ (ss : List Source). All IsReady ss) (sym c.in-Ok-push.ensures.items) (All-push IsReady c.loop-entry.sources.items c.in-Ok.source c.loop-entry.invariant.ready c.in-Ok.ensures.ready);
-      later = let x = c.loop-entry.invariant.later in let y = c.fetch_source.ensures.later in omega arith;
+      count = count_more c.loop-entry.sources.items c.push.new.self.items c.loop-entry.entry-index c.in_ok-source.source c.in-Ok.ensures.items c.loop-entry.invariant.count;
+      named = alike_more (λ (s : Source). s.name) (λ (e : SampleEntry). e.name) c.args.entries.now c.loop-entry.sources.items c.push.new.self.items c.loop-entry.entry-index c.entry-item.result c.in_ok-source.source at c.in-Ok.ensures.items c.loop-entry.invariant.named c.in_ok-source.ensures.named;
+      ready = subst (λ (ss : List Source). All IsReady ss) (sym c.in-Ok.ensures.items) (All-push IsReady c.loop-entry.sources.items c.in_ok-source.source c.loop-entry.invariant.ready c.in_ok-source.ensures.ready);
+      later = let x = c.loop-entry.invariant.later in let y = c.fetch_source.ensures.keeps.later in omega arith;
       told = λ files told.
           let before = c.loop-entry.invariant.told files told in
-          let got = c.in-Ok.ensures.told files (before.0.quiet.files ∙ told) in (
+          let got = c.in_ok-source.ensures.told files (before.0.quiet.files ∙ told) in (
             reads_more (source_reading files c.args.rule) c.args.entries.now c.loop-entry.entry-index c.entry-item.result (g.H.Host.world c.args.host.now) (g.H.Host.world c.loop-entry.host) (g.H.Host.world c.fetch_source.new.host) at before.0 got.0,
-            zip_more (λ e s. source_in files c.args.rule e ≡ Ok s) c.args.entries.now c.loop-entry.sources.items c.push.new.self.items c.loop-entry.entry-index c.entry-item.result c.in-Ok.source at c.in-Ok-push.ensures.items before.1 got.1,
+            zip_more (λ e s. source_in files c.args.rule e ≡ Ok s) c.args.entries.now c.loop-entry.sources.items c.push.new.self.items c.loop-entry.entry-index c.entry-item.result c.in_ok-source.source at c.in-Ok.ensures.items before.1 got.1,
           );
     }
 

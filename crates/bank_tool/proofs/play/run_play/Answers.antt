@@ -7,7 +7,7 @@ pub returns-clause-told : goal.returns-clause-told
 returns-clause-told g c = λ files told.
     promised (play_course files c.args.file.now c.args.entry c.args.count) (IsPlayed (said_in files c.args.file.now c.args.entry c.args.count))
     (g.H.Host.world c.args.host.now) (g.H.Host.world c.come_play-status.new.host) (g.H.Host.world c.finish.new.host) _ _
-    c.come_play-status.ensures.later (c.come_play-status.ensures.told files told) c.finish.ensures
+    c.come_play-status.ensures.keeps.later (c.come_play-status.ensures.told files told) c.finish.ensures
 
 pub returns-clause-answer : goal.returns-clause-answer
 returns-clause-answer g c = λ files told.

@@ -16,7 +16,7 @@ returns-in-Ok-Some-clause-block g c = λ files input output told is.
 
 pub returns-in-Ok-Some-clause-compile : goal.returns-in-Ok-Some-clause-compile
 returns-in-Ok-Some-clause-compile g c = λ files manifest told is.
-    compile_answers (Some c.in-Ok-Some.command) files manifest (g.H.Host.world c.args.host.now) (g.H.Host.world c.obey.new.host) c.obey.result (sym c.in-Ok-Some.field-0-is ∙ c.in-Ok-Some.ensures.value ∙ is) (c.obey.ensures.told files told)
+    compile_answers (Some c.in-Ok-Some.command) files manifest (g.H.Host.world c.args.host.now) (g.H.Host.world c.obey.new.host) c.obey.result told (sym c.in-Ok-Some.field-0-is ∙ c.in-Ok-Some.ensures.value ∙ is) (c.obey.ensures.told files told)
 
 pub returns-in-Ok-Some-clause-play : goal.returns-in-Ok-Some-clause-play
 returns-in-Ok-Some-clause-play g c = λ files kind file entry count told is.

@@ -1,7 +1,7 @@
 #!/usr/bin/env python3
-"""Makes the sounds of the example bank: a plucked string, a drum and a looped tone.
+"""Makes the sounds of the examples: a plucked string, a drum, an organ, a vowel, a noise hit and a plain tone.
 
-Each is a 16-bit mono WAVE file; the string and the tone have a loop in a `smpl` chunk.
+Each is a 16-bit mono WAVE file; all but the drum and the hit have a loop in a `smpl` chunk.
 The files are the same on every run.
 """
 import math
@@ -55,6 +55,43 @@ def tone(frames, start, period):
     return out, (start, frames - 1)
 
 
+def organ(start, period):
+    """An organ: the drawbars of one key, with a click that dies away, and a loop of one turn."""
+    bars = ((1, 0.36), (2, 0.2), (3, 0.16), (4, 0.1), (6, 0.06))
+    out = []
+    for i in range(start + period):
+        turn = 2 * math.pi * i / period
+        click = 0.15 * math.exp(-i / 20) * math.sin(7.3 * turn)
+        out.append(min(1.0, (i + 1) / 60) * sum(level * math.sin(bar * turn) for bar, level in bars) + click)
+    return out, (start, start + period - 1)
+
+
+def vowel(start, period):
+    """A vowel as in "father": pulses of the voice through three resonators, and a loop of one turn."""
+    out = [1.0 if i % period == 0 else -1.0 / (period - 1) for i in range(start + period)]
+    for pitch, width in ((700, 90), (1220, 110), (2600, 160)):
+        decay = math.exp(-math.pi * width / RATE)
+        echo = 2 * decay * math.cos(2 * math.pi * pitch / RATE)
+        last = older = 0.0
+        for i, x in enumerate(out):
+            last, older = (1 - echo + decay * decay) * x + echo * last - decay * decay * older, last
+            out[i] = last
+    most = max(abs(x) for x in out)
+    return [0.8 * x / most * min(1.0, (i + 1) / 400) for i, x in enumerate(out)], (start, start + period - 1)
+
+
+def hit(frames):
+    """A noise hit: noise that grows duller as it dies away."""
+    source = noise(3)
+    out = []
+    last = 0.0
+    for i in range(frames):
+        t = i / frames
+        last += (0.25 + 0.7 * math.exp(-5 * t)) * (next(source) - last)
+        out.append(0.9 * last * math.exp(-5 * t))
+    return out, None
+
+
 def chunk(name, body):
     return name + struct.pack("<I", len(body)) + body + b"\0" * (len(body) % 2)
 
@@ -72,7 +109,14 @@ def wave(sound, loop):
 
 
 def main():
-    sounds = {"pluck": pluck(4000, 64), "drum": drum(3000), "tone": tone(1600, 800, 100)}
+    sounds = {
+        "pluck": pluck(4000, 64),
+        "drum": drum(3000),
+        "organ": organ(640, 48),
+        "vowel": vowel(1900, 100),
+        "hit": hit(2400),
+        "tone": tone(1600, 800, 100),
+    }
     for name, (sound, loop) in sounds.items():
         with open(os.path.join(HERE, name + ".wav"), "wb") as file:
             file.write(wave(sound, loop))

@@ -2,7 +2,7 @@
 #
 # Needs the Rattle kit, whose command is `rt`. Only a proved crate is built, so the first `make`
 # proves every crate, which takes about half an hour on four processors; after an edit only what
-# changed is proved again. `bench` needs Python 3, and `compare` Python 3.11.
+# changed is proved again. `bench` needs Python 3; `compare` and `outside` need Python 3.11.
 
 SHELL := /bin/bash
 .SHELLFLAGS := -euo pipefail -c
@@ -13,24 +13,28 @@ PREFIX ?= /usr/local
 
 SOURCES := crates.txt $(shell find crates -path '*/out' -prune -o -type f \( -name '*.rt' -o -name '*.antt' \) -print)
 
-.PHONY: all demo test compare bench install clean
+.PHONY: all demo test compare outside bench install uninstall clean
 
 all: build/adbank
+	@echo 'The program is build/adbank; `make demo` shows what it does.'
 
 # What shows how far a check is, and what is wrong; all of it goes to a log.
-PROGRESS := awk '/^(rt: |checked |logic=)|: error|no proof/ { print substr($$0, 1, 160); fflush() }'
+PROGRESS := bash tools/progress.sh crates.txt
 
 # `rt run` proves, compiles and links the program, and leaves it in the crate's folder out/. It is
 # run once on the way, on one period of a sine.
 build/adbank: $(SOURCES)
+	@bash tools/check_kit.sh '$(RT)' README.md
 	@mkdir -p build
-	@echo 'Proving the crates, $(JOBS) at a time; the whole log is build/check.log.'
-	@$(RT) all check --jobs $(JOBS) 2>&1 | tee build/check.log | $(PROGRESS)
-	@echo 'Building the program; the whole log is build/build.log.'
+	@echo "This proves $$(grep -c '^[a-z]' crates.txt) crates, $(JOBS) at a time, and then builds the program."
+	@echo 'From nothing it takes about half an hour on four processors; later only what changed is proved.'
+	@$(RT) all check --jobs $(JOBS) 2>&1 | tee build/check.log | $(PROGRESS) || \
+	    { echo 'Not all crates are proved; the whole log is build/check.log.' >&2; exit 1; }
+	@echo 'Building the program, a minute or two.'
 	@sh examples/sine.sh >build/sine.raw
-	@cd crates/adbank && $(RT) run -- block ../../build/sine.raw ../../build/sine.brr 2>&1 | tee ../../build/build.log | $(PROGRESS)
+	@(cd crates/adbank && $(RT) run -- block ../../build/sine.raw ../../build/sine.brr) 2>&1 | tee build/build.log | $(PROGRESS) || \
+	    { echo 'The program is not built; the whole log is build/build.log.' >&2; exit 1; }
 	@cp crates/adbank/out/adbank $@
-	@echo 'The program is $@.'
 
 # Three sounds become a bank, and the tone plays from it; one period of a sine becomes one block.
 demo: build/adbank
@@ -42,24 +46,63 @@ demo: build/adbank
 	@cd build/demo; echo '$$ adbank block sine.raw sine.brr'; ../adbank block sine.raw sine.brr
 	@echo 'Sources, the bank, the first passes and the block lie in build/demo.'
 
+# Every example, each with its command and what it prints, which must be its report.
+.PHONY: examples
+examples: build/adbank
+	@mkdir -p build/examples
+	@cp examples/*.toml examples/*.wav build/examples
+	@cd build/examples; for manifest in *.toml; do \
+	  echo "$$ adbank compile $$manifest"; ../adbank compile "$$manifest" | tee "$${manifest%.toml}.report"; done
+	@for report in examples/*.report; do cmp "$$report" "build/$$report"; done
+
+# Pictures of the examples' sounds, and of what is done to a loop.
+.PHONY: pictures
+pictures: build/adbank
+	@mkdir -p build/pictures
+	@cp examples/*.toml examples/*.wav build/pictures
+	@cd build/pictures; python3 -B ../../tools/pictures sounds.toml --into ../../docs/pictures
+	@python3 -B tools/pictures --loops --into docs/pictures
+
 # How long the built program takes on generated inputs, as a table.
 bench: build/adbank
 	@python3 bench/run.py
 
 # Whole banks, byte for byte beside those of a plain compiler that shares nothing with this one. The
 # data of the program's stored run are an example's.
-compare: build/adbank
+compare: build/adbank outside
 	@cmp examples/tone.toml crates/adbank/data/tone.toml
 	@cmp examples/tone.wav crates/adbank/data/tone.wav
 	@python3 -B tests/outside/compare_banks.py build/adbank
+
+# What stands beside the program, each thing by a test of its own in plain Python.
+outside: build/adbank
+	@for test in tests/outside/test_*.py; do echo "$$test"; python3 -B "$$test" build/adbank; done
 
 # The merge gate: the proofs, the edits that must be refused, the tests and the program's run.
 test:
 	$(RT) ci
 
+# Where the program, its manual page, what the page refers to, and the completions go.
+BIN = $(DESTDIR)$(PREFIX)/bin
+SHARE = $(DESTDIR)$(PREFIX)/share
+MAN = $(SHARE)/man/man1
+DOC = $(SHARE)/doc/adbank
+BASH_COMPLETION = $(SHARE)/bash-completion/completions
+ZSH_COMPLETION = $(SHARE)/zsh/site-functions
+
 install: build/adbank
-	install -d '$(DESTDIR)$(PREFIX)/bin'
-	install -m 755 build/adbank '$(DESTDIR)$(PREFIX)/bin/adbank'
+	install -d '$(BIN)' '$(MAN)' '$(DOC)' '$(BASH_COMPLETION)' '$(ZSH_COMPLETION)'
+	install -m 755 build/adbank '$(BIN)/adbank'
+	install -m 644 adbank.1 '$(MAN)/adbank.1'
+	install -m 644 docs/FORMATS.md docs/DECISIONS.md '$(DOC)'
+	install -m 644 completion/adbank.bash '$(BASH_COMPLETION)/adbank'
+	install -m 644 completion/adbank.zsh '$(ZSH_COMPLETION)/_adbank'
+
+# Folders that others may use stay.
+uninstall:
+	rm -f '$(BIN)/adbank' '$(MAN)/adbank.1' '$(DOC)/FORMATS.md' '$(DOC)/DECISIONS.md'
+	rm -f '$(BASH_COMPLETION)/adbank' '$(ZSH_COMPLETION)/_adbank'
+	rmdir '$(DOC)' 2>/dev/null || true
 
 clean:
 	rm -rf build

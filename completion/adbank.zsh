@@ -1,0 +1,18 @@
+#compdef adbank
+# Completion of adbank's words in zsh: a command, and then its files. adbank takes no options.
+
+local -a commands=(
+    'compile:compile the bank that a manifest describes'
+    'play:say the first outputs of an entry of an image'
+    'block:make one block of sixteen raw samples'
+)
+
+case $CURRENT,$words[2] in
+    2,*) _describe command commands ;;
+    3,compile) _files -g '*.toml' ;;
+    3,play) compadd brr ;;
+    4,play) _files ;;
+    5,play) _message 'entry, counted from 0' ;;
+    6,play) _message 'count of outputs' ;;
+    [34],block) _files ;;
+esac

@@ -1,5 +1,6 @@
 use Rattle.std.proofs.Common.{◌≡◌, ℕ, zero, suc, ◌<◌, List, [], ◌∷◌, Some, refl, sym, subst, arith, get_or}
 use Rattle.adpcm_nums.specs.First.{first_where}
+use Rattle.block_flags.specs.Last.{last_where}
 use Rattle.player_model.specs.BrrTrack.{track_of}
 use Rattle.snes_directory.specs.declared.part.ImagePart.{ImagePart}
 use Rattle.snes_directory.specs.Part.{IsPart}
@@ -13,7 +14,7 @@ silence = 3 ∷ 0 ∷ 0 ∷ 0 ∷ 0 ∷ 0 ∷ 0 ∷ 0 ∷ 0 ∷ []
 
 -- a block that repeats is a sample
 one_block : IsPart (part silence)
-unfolding first_where track_of
+unfolding first_where last_where track_of
 one_block = record { some_rate = omega arith; high_rate = omega arith; small = omega arith; whole = refl; track = refl; loop_block = refl }
 
 one_part : (blocks : List ℕ) (k : ℕ) (d : ImagePart) → blocks ≡ silence → k < 1 → IsPart (get_or (part blocks ∷ []) k d)

@@ -15,3 +15,4 @@ pub mod Multiples
 pub mod Picks
 pub mod NibblePicks
 pub mod RoundLaws
+pub mod ClampLaws

@@ -9,3 +9,4 @@ pub mod Round
 pub mod Nearest
 pub mod Nibbles
 pub mod Picks
+pub mod Spans

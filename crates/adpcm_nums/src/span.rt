@@ -44,6 +44,16 @@ impl Span {
     }
 }
 
+/// The span of 0 alone.
+impl Default for Span {
+    fn default() -> Span
+        ensures lo { result.lo ≡ pos 0 }
+        ensures hi { result.hi ≡ pos 0 }
+    {
+        Span { lo: 0, hi: 0 }
+    }
+}
+
 #[cfg(test)]
 mod tests {
     use super::Span;

@@ -7,3 +7,4 @@ pub mod ZeroSums
 pub mod Predictions
 pub mod PlainCodes
 pub mod LevelLaws
+pub mod PartAdding

@@ -1,9 +1,10 @@
 -- What the decoder of BRR means to all that bounds, searches and checks its lists of blocks.
-use Rattle.std.specs.Prelude.{ℕ, ◌+◌, ◌*◌, min, get_or}
+use Rattle.std.specs.Prelude.{ℕ, ◌+◌, ◌*◌, min, get_or, true}
 use Rattle.machine_core.specs.declared.state.Kind.TheVariants.{Brr}
 use Rattle.machine_core.specs.Rules.{Rules}
 use Rattle.brr_machine.specs.Brr.{brr, shift_of, filter_of}
 use Rattle.brr_machine.specs.Boxes.{is_brr_box, all_states}
+use Rattle.brr_machine.specs.Image.{brr_image}
 use Rattle.brr_machine.specs.Floors.{brr_floor}
 
 -- from shift 13 on the shift does not count
@@ -22,4 +23,8 @@ brr_rules = record {
   floors_a_place = 1;
   floor_len = 17;
   floor_read = λ head p bx table. get_or table p 0;
+  image = λ head p code bx target. brr_image head code bx target;
+  first_symbol = λ p target slack. 0;
+  last_symbol = λ p target slack. 15;
+  cuts_b = true;
 }

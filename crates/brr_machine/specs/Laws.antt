@@ -8,6 +8,10 @@ pub mod Equations
 pub mod Samples
 pub mod Outcomes
 pub mod FloorTruth
+pub mod Rises
+pub mod Cuts
+pub mod Parts
+pub mod Boxed
 use Rattle.std.proofs.Common.{◌≡◌, ℕ, ◌<◌, ◌≤◌, arith, refl, true, IsTrue}
 use Rattle.machine_core.specs.declared.state.HeadRule.{HeadRule}
 use Rattle.machine_core.specs.declared.state.HeadRule.TheVariants.{AnyHead, FilterZero}

@@ -3,6 +3,7 @@ pub mod Spelling
 pub mod Zero
 pub mod Predicted
 pub mod Boxes
+pub mod Image
 pub mod Rows
 pub mod Floors
 pub mod BrrRules

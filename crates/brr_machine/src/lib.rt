@@ -6,6 +6,7 @@ mod block;
 mod decode;
 mod filter;
 mod floors;
+mod image;
 mod least;
 mod levels;
 mod machine;

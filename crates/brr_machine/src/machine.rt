@@ -1,13 +1,16 @@
 ghost use Rattle.brr_machine.specs.BrrRules.{brr_rules};
 ghost use Rattle.brr_machine.specs.Laws.{brr_is_machine};
+ghost use Rattle.brr_machine.specs.Laws.Boxed.{brr_is_boxed};
 
 use crate::filter::predict;
 use crate::floors::fill_floors;
+use crate::image::image;
 use crate::least::{allows_head, least_floor};
 use crate::nearest::{nearest_code, output_cost};
 use crate::step::brr_output;
 use crate::taken::taken_from;
-use machine_core::{Bx, HeadRule, Kind, Machine, State, Taken};
+use adpcm_nums::Span;
+use machine_core::{Bx, Cell, HeadRule, Kind, Machine, Pieces, State, Taken, cell_box, cell_of};
 
 /// The decoder of the SNES's bit rate reduction (fullsnes, BRR samples).
 ///
@@ -79,5 +82,24 @@ impl Machine for Brr {
         table[pos as usize]
     }
 
+    // All codes.
+    fn symbol_span(&self, _place: u32, _target: i32, _slack: u64) -> Span {
+        Span { lo: 0, hi: 15 }
+    }
+
+    fn box_step(&self, head: u32, _place: u32, sym: u32, from: Bx, target: i32) -> Pieces {
+        image(head, sym, from, target)
+    }
+
+    fn cell_of(&self, level: u32, at: State) -> Cell {
+        cell_of(true, level, at)
+    }
+
+    fn cell_box(&self, level: u32, cell: Cell) -> Bx {
+        cell_box(true, level, cell)
+    }
+
     ghost lawful = { λ _. brr_is_machine };
+
+    ghost boxed = { λ _. brr_is_boxed };
 }

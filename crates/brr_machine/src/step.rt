@@ -9,7 +9,7 @@ use machine_core::State;
 
 /// What comes before the output is clamped to 16 bits and wrapped to 15.
 #[tactic(auto, unfolding(crate::specs::Brr::raw_of))]
-fn raw(head: u32, code: u32, o: i32, r: i32) -> i64
+pub(crate) fn raw(head: u32, code: u32, o: i32, r: i32) -> i64
     requires head { head < 64 }
     requires code { code < 16 }
     requires o_low { negsuc 16383 ≤ℤ o }

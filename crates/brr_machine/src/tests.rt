@@ -2,6 +2,7 @@ ghost use Rattle.std.specs.Prelude.{IsTrue};
 ghost use Rattle.adpcm_nums.specs.Sample.{AreSamples};
 ghost use Rattle.brr_machine.specs.Brr.{is_brr_state};
 
+mod image;
 mod machine;
 mod table;
 

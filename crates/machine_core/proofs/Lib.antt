@@ -12,3 +12,7 @@ pub mod LaneFloors
 pub mod TailPath
 pub mod Runs
 pub mod LeastFloor
+pub mod CellSizes
+pub mod CellLaws
+pub mod PieceLaws
+pub mod OutputBoxes

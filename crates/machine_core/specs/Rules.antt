@@ -5,7 +5,9 @@ use Rattle.machine_core.specs.declared.state.State.{State}
 use Rattle.machine_core.specs.declared.state.Kind.{Kind}
 use Rattle.machine_core.specs.declared.state.HeadRule.{HeadRule}
 use Rattle.machine_core.specs.declared.boxes.Bx.{Bx}
+use Rattle.machine_core.specs.declared.pieces.Piece.{Piece}
 use Rattle.machine_core.specs.Boxes.{InBox}
+use Rattle.machine_core.specs.Cells.{Grid}
 use Rattle.machine_core.specs.Decoder.{Decoder, Forgets, start, cost_of, miss}
 
 -- a decoder, with its boxes of states and the floors under its blocks
@@ -25,6 +27,17 @@ pub record Rules : Type 0 where
   -- the length of a head's table of floors, and what it says of a head, a place and a box
   pub floor_len : ℕ
   pub floor_read : ℕ → ℕ → Bx → List ℕ → ℕ
+  -- head, place, symbol, box and target: where the states of the box go, each piece at the least cost in it
+  pub image : ℕ → ℕ → ℕ → Bx → ℤ → List Piece
+  -- place, target and slack: the first and the last of the symbols that may cost at most the slack
+  pub first_symbol : ℕ → ℤ → ℕ → ℕ
+  pub last_symbol : ℕ → ℤ → ℕ → ℕ
+  -- whether the second numbers of states are cut into runs as the first are
+  pub cuts_b : Bool
+
+-- how its states are cut into cells
+abbrev pub grid : Rules → Grid
+grid r = record { whole = r.whole; cuts_b = r.cuts_b }
 
 -- the cost of `count` samples of a block under a head, from place p and a state; `cost` tells of a place and the state after it what it costs
 abbrev pub tail_cost : Decoder → (ℕ → State → ℕ) → ℕ → (ℕ → ℕ) → ℕ → State → ℕ → ℕ

@@ -1,13 +1,16 @@
 ghost use Rattle.std.specs.Prelude.{◌≡◌, ℕ, ◌+◌, ◌-◌, ◌*◌, ◌%◌, ◌/◌, ◌^◌, ◌<◌, ◌≤◌, ℤ, IsTrue, List, length, get_or, Bool};
-ghost use Rattle.adpcm_nums.specs.Sample.{AreSamples};
+ghost use Rattle.adpcm_nums.specs.Sample.{IsSample, AreSamples};
 ghost use Rattle.machine_core.specs.declared.state.State.{State};
 ghost use Rattle.machine_core.specs.declared.state.HeadRule.TheVariants.{FilterZero};
 ghost use Rattle.machine_core.specs.declared.boxes.Bx.{Bx};
-ghost use Rattle.machine_core.specs.Boxes.{InBox};
+ghost use Rattle.machine_core.specs.declared.boxes.Cell.{Cell};
+ghost use Rattle.machine_core.specs.Boxes.{InBox, point_box, low_corner, high_corner};
+ghost use Rattle.machine_core.specs.Cells.{Grid, is_level, cell_of, cell_box, is_cell, IsBetween};
+ghost use Rattle.machine_core.specs.Boxed.{IsBoxed};
 ghost use Rattle.machine_core.specs.Decoder.{Decoder, Forgets, miss};
 ghost use Rattle.machine_core.specs.Blocks.{Blocks, IsInRange, IsLegal, head_at, state_at, output_at};
 ghost use Rattle.machine_core.specs.Sums.{sum_after, sum_of};
-ghost use Rattle.machine_core.specs.Rules.{Rules, IsMachine};
+ghost use Rattle.machine_core.specs.Rules.{Rules, IsMachine, grid};
 ghost use Rattle.machine_core.specs.Floors.{block_targets, floor_in, may_take, rest, floor_of_blocks};
 
 /// The floor under a sample or a segment is at most the error of every legal list of blocks.
@@ -51,4 +54,21 @@ pub fn lanes_have_floors()
         → r.lane head (i % r.decoder.samples) ≡ lane → IsTrue (r.is_box (i % r.decoder.samples) bx)
         → length (block_targets r targets (i / r.decoder.samples)) ≡ r.decoder.samples → AreSamples (block_targets r targets (i / r.decoder.samples))
         → floor_in r fixed targets i lane bx ≡ r.floor head (i % r.decoder.samples) bx (block_targets r targets (i / r.decoder.samples)) }
+{}
+
+/// Each state is in its cell's box, and cells stand in the order of their states.
+pub fn states_have_cells()
+    ensures held { (g : Grid) (level : ℕ) (at : State) → IsTrue (is_level level) → InBox at (cell_box g level (cell_of g level at)) }
+    ensures exact { (g : Grid) (at : State) → cell_box g 0 (cell_of g 0 at) ≡ point_box at }
+    ensures between { (g : Grid) (level : ℕ) (bx : Bx) (at : State) → IsTrue (is_level level) → InBox at bx
+        → IsBetween (cell_of g level (low_corner bx)) (cell_of g level (high_corner bx)) (cell_of g level at) }
+    ensures is_cell { (r : Rules) (level : ℕ) (at : State) → IsMachine r → IsTrue (is_level level) → IsTrue (r.decoder.is_state at)
+        → IsTrue (is_cell (grid r) level (cell_of (grid r) level at)) }
+{}
+
+/// The cells that a box meets are cells of states, and a file tells their numbers in 16 bits.
+pub fn boxes_meet_cells()
+    ensures met { (r : Rules) (level p : ℕ) (bx : Bx) (cell : Cell) → IsBoxed r → IsTrue (is_level level) → p < r.decoder.samples → IsTrue (r.is_box p bx)
+        → IsBetween (cell_of (grid r) level (low_corner bx)) (cell_of (grid r) level (high_corner bx)) cell → IsTrue (is_cell (grid r) level cell) }
+    ensures small { (r : Rules) (level : ℕ) (cell : Cell) → IsBoxed r → IsTrue (is_level level) → IsTrue (is_cell (grid r) level cell) → IsSample cell.a × IsSample cell.b }
 {}

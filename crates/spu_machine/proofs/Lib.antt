@@ -5,3 +5,4 @@ pub mod Products
 pub mod LevelLaws
 pub mod NearCodes
 pub mod Predictions
+pub mod Corners

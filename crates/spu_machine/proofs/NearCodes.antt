@@ -14,7 +14,7 @@ use Rattle.adpcm_nums.proofs.Multiples.{IsLower, lower-is, steps-apart, farther,
 use Rattle.adpcm_nums.proofs.NibblePicks.{next-value, Rises, first-of-neighbours}
 use Rattle.spu_machine.specs.Spu.{sample_of, acting_shift}
 use Rattle.spu_machine.specs.Predicted.{predicted_output, predicted_cost, nearest_predicted}
-use Rattle.spu_machine.specs.Laws.Outcomes.{clamp-in}
+use Rattle.adpcm_nums.proofs.ClampLaws.{clamp-in}
 use Rattle.spu_machine.proofs.LevelLaws.{multiple}
 
 -- what is below a number that is not clamped stays below it

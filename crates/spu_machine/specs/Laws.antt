@@ -6,6 +6,8 @@ pub mod Alike
 pub mod Ranges
 pub mod Outcomes
 pub mod FloorTruth
+pub mod Rises
+pub mod Boxed
 use Rattle.std.proofs.Common.{◌≡◌, ℕ, ◌<◌, ◌≤◌, arith, refl, true, IsTrue}
 use Rattle.machine_core.specs.declared.state.HeadRule.{HeadRule}
 use Rattle.machine_core.specs.declared.state.HeadRule.TheVariants.{AnyHead, FilterZero}

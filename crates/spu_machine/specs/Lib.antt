@@ -4,6 +4,7 @@ pub mod Spelling
 pub mod Predicted
 pub mod Rows
 pub mod Boxes
+pub mod Image
 pub mod Floors
 pub mod SpuRules
 pub mod Laws

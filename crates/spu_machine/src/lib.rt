@@ -5,6 +5,7 @@ mod block;
 mod decode;
 mod filter;
 mod floors;
+mod image;
 mod laws;
 mod least;
 mod levels;

@@ -1,6 +1,7 @@
 ghost use Rattle.std.specs.Prelude.{IsTrue, ◌≤ℤ◌, pos, negsuc};
 ghost use Rattle.spu_machine.specs.Spu.{is_spu_state};
 
+mod image;
 mod machine;
 mod table;
 

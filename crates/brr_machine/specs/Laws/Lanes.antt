@@ -25,12 +25,17 @@ same-filter g h e = omega arith
 pub same-shift : (g h : ℕ) → lane_of g ≡ lane_of h → min (shift_of g) 13 ≡ min (shift_of h) 13
 same-shift g h e = omega arith
 
-pub same-output : (g h code : ℕ) (o r : ℤ) → lane_of g ≡ lane_of h → output_of g code o r ≡ output_of h code o r
-unfolding output_of raw_of
-same-output g h code o r e =
+-- so what comes before the clamp is the same
+pub same-raw : (g h code : ℕ) (o r : ℤ) → lane_of g ≡ lane_of h → raw_of g code o r ≡ raw_of h code o r
+unfolding raw_of
+same-raw g h code o r e =
     let sample : sample_of (shift_of g) code ≡ sample_of (shift_of h) code = same-sample _ _ code (same-shift g h e) in
     let prediction : prediction_of (filter_of g) o r ≡ prediction_of (filter_of h) o r = ap (λ z. prediction_of z o r) (same-filter g h e) in
-    ap (λ x. wrap15_of (clamp16_of (x +ℤ prediction_of (filter_of g) o r))) sample ∙ ap (λ y. wrap15_of (clamp16_of (sample_of (shift_of h) code +ℤ y))) prediction
+    ap (λ x. x +ℤ prediction_of (filter_of g) o r) sample ∙ ap (λ y. sample_of (shift_of h) code +ℤ y) prediction
+
+pub same-output : (g h code : ℕ) (o r : ℤ) → lane_of g ≡ lane_of h → output_of g code o r ≡ output_of h code o r
+unfolding output_of
+same-output g h code o r e = ap (λ x. wrap15_of (clamp16_of x)) (same-raw g h code o r e)
 
 pub same-step : (g h place code : ℕ) (from : State) → lane_of g ≡ lane_of h → brr_step g place code from ≡ brr_step h place code from
 unfolding brr_step

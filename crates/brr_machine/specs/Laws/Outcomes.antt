@@ -1,10 +1,11 @@
 -- What an output can be: one of the two that clamping gives, or the filter's result less a wrap.
 use Rattle.std.proofs.Common.{◌≡◌, ℕ, zero, suc, ◌<◌, ◌≤◌, arith, ap, sym, subst, ◌∙◌, refl, inl, inr, Bool, true}
-use Rattle.std.specs.Prelude.{ℤ, pos, negsuc, ◌+ℤ◌, ◌-ℤ◌, ◌*ℤ◌, ◌≤ℤ◌, ◌<ℤ◌, List, get_or}
+use Rattle.std.specs.Prelude.{ℤ, pos, negsuc, ◌+ℤ◌, ◌-ℤ◌, ◌*ℤ◌, ◌≤ℤ◌, List, get_or}
 use Rattle.std.proofs.lemmas.Int.{ints}
 use Rattle.std.proofs.lemmas.List.FromFn.{get_or-map-range_with_len}
 use Rattle.adpcm_nums.specs.Nums.{clamp16_of, wrap15_of}
 use Rattle.adpcm_nums.proofs.OrderLaws.{le-or-gt}
+use Rattle.adpcm_nums.proofs.ClampLaws.{clamp-under, clamp-over, clamp-in}
 use Rattle.window_floor.specs.Row.{Row}
 use Rattle.window_floor.specs.Outcome.{IsWrap, none, up, down, IsOutcome, clamped_first, clamped_second, filtered}
 use Rattle.brr_machine.specs.Brr.{sample_of, prediction_of, raw_of, output_of, shift_of, filter_of}
@@ -12,15 +13,6 @@ use Rattle.brr_machine.specs.Rows.{brr_row}
 use Rattle.brr_machine.specs.Floors.{samples_under}
 use Rattle.brr_machine.specs.Laws.Samples.{sample_low, sample_high}
 use Rattle.brr_machine.specs.Laws.Equations.{rounds, filter-1, filter-2, filter-3}
-
-clamp-under : (x : ℤ) → x <ℤ negsuc 32767 → clamp16_of x ≡ negsuc 32767
-clamp-under x h = grind (arith, ints)
-
-clamp-over : (x : ℤ) → pos 32767 <ℤ x → clamp16_of x ≡ pos 32767
-clamp-over x h = grind (arith, ints)
-
-clamp-in : (x : ℤ) → negsuc 32767 ≤ℤ x → x ≤ℤ pos 32767 → clamp16_of x ≡ x
-clamp-in x h k = grind (arith, ints)
 
 wrap-under : (x : ℤ) → negsuc 32767 ≤ℤ x → x ≤ℤ negsuc 16384 → wrap15_of x ≡ x -ℤ pos 32768 *ℤ negsuc 0
 wrap-under x h k = grind (arith, ints)

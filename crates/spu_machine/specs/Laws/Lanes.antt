@@ -37,7 +37,7 @@ unfolding sample_of
 same-sample s t c e = ap (λ z. floor_of (nibble c *ℤ pos 4096) (2 ^ z)) e
 
 -- outputs are the same
-same-output : (g h code : ℕ) (o r : ℤ) → lane_of g ≡ lane_of h → output_of g code o r ≡ output_of h code o r
+pub same-output : (g h code : ℕ) (o r : ℤ) → lane_of g ≡ lane_of h → output_of g code o r ≡ output_of h code o r
 unfolding output_of raw_of
 same-output g h code o r e =
     let sample : sample_of (shift_of g) code ≡ sample_of (shift_of h) code = same-sample _ _ code (same-shift g h e) in

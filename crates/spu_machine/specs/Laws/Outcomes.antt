@@ -1,6 +1,6 @@
 -- What an output can be: one of the two that clamping gives, or the filter's result.
 use Rattle.std.proofs.Common.{◌≡◌, ℕ, suc, ◌<◌, ◌≤◌, ◌^◌, arith, ap, sym, ◌∙◌, inl, inr, false, subst, ◌-◌}
-use Rattle.std.specs.Prelude.{ℤ, pos, negsuc, ◌+ℤ◌, ◌-ℤ◌, ◌*ℤ◌, ◌≤ℤ◌, ◌<ℤ◌, unsigned_abs, List, get_or}
+use Rattle.std.specs.Prelude.{ℤ, pos, negsuc, ◌+ℤ◌, ◌-ℤ◌, ◌*ℤ◌, ◌≤ℤ◌, unsigned_abs, List, get_or}
 use Rattle.std.proofs.lemmas.Int.{ints}
 use Rattle.std.proofs.lemmas.List.FromFn.{get_or-map-range_with_len}
 use Rattle.adpcm_nums.specs.Nums.{floor_of, clamp16_of}
@@ -10,6 +10,7 @@ use Rattle.adpcm_nums.proofs.NearestLaws.{floor-low, floor-high}
 use Rattle.adpcm_nums.proofs.FloorBounds.{floor_above, floor_below}
 use Rattle.adpcm_nums.proofs.NibbleValues.{nibble-low, nibble-high}
 use Rattle.adpcm_nums.proofs.OrderLaws.{le-or-gt}
+use Rattle.adpcm_nums.proofs.ClampLaws.{clamp-under, clamp-over, clamp-in}
 use Rattle.window_floor.specs.Outcome.{none, IsOutcome, clamped_first, clamped_second, filtered}
 use Rattle.spu_machine.specs.Spu.{sample_of, acting_shift, prediction_of, last_weight, older_weight, raw_of, output_of, shift_of, filter_of}
 use Rattle.spu_machine.specs.Rows.{spu_row}
@@ -35,15 +36,6 @@ pub data Ends (raw : ℤ) : Type 0 where
   over : clamp16_of raw ≡ pos 32767 → Ends raw
   under : clamp16_of raw ≡ negsuc 32767 → Ends raw
   plain : clamp16_of raw ≡ raw → Ends raw
-
-clamp-under : (x : ℤ) → x <ℤ negsuc 32767 → clamp16_of x ≡ negsuc 32767
-clamp-under x h = grind (arith, ints)
-
-clamp-over : (x : ℤ) → pos 32767 <ℤ x → clamp16_of x ≡ pos 32767
-clamp-over x h = grind (arith, ints)
-
-pub clamp-in : (x : ℤ) → negsuc 32767 ≤ℤ x → x ≤ℤ pos 32767 → clamp16_of x ≡ x
-clamp-in x h k = grind (arith, ints)
 
 ends : (raw : ℤ) → Ends raw
 ends raw =

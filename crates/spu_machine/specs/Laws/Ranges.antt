@@ -3,8 +3,8 @@ use Rattle.std.proofs.Common.{ℕ, ◌^◌, ◌≤◌, arith}
 use Rattle.std.specs.Prelude.{ℤ, pos, ◌-ℤ◌, ◌*ℤ◌, unsigned_abs, IsTrue}
 use Rattle.std.proofs.lemmas.Int.{ints}
 use Rattle.std.proofs.Math.Nat.{mul-le-mul}
-use Rattle.adpcm_nums.specs.Nums.{clamp16_of}
 use Rattle.adpcm_nums.specs.Sample.{IsSample}
+use Rattle.adpcm_nums.proofs.ClampLaws.{clamped}
 use Rattle.machine_core.specs.declared.state.State.{State}
 use Rattle.machine_core.specs.Boxes.{InBox}
 use Rattle.machine_core.specs.Decoder.{cost_of}
@@ -12,12 +12,8 @@ use Rattle.spu_machine.specs.Spu.{spu, spu_step, raw_of, output_of, is_spu_state
 use Rattle.spu_machine.specs.Boxes.{all_states}
 use Rattle.spu_machine.specs.Laws.States.{last_bounds, older_bounds, state_in_range}
 
--- what is clamped has 16 bits
-pub clamped : (x : ℤ) → IsSample (clamp16_of x)
-clamped x = record { low = grind (arith, ints); high = grind (arith, ints) }
-
--- so every output has
-output-fits : (head code : ℕ) (o r : ℤ) → IsSample (output_of head code o r)
+-- every output has 16 bits
+pub output-fits : (head code : ℕ) (o r : ℤ) → IsSample (output_of head code o r)
 unfolding output_of
 output-fits head code o r = clamped (raw_of head code o r)
 

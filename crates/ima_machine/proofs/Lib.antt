@@ -1,0 +1,13 @@
+pub mod StepSizes
+pub mod LowBits
+pub mod Ladders
+pub mod NearestCodes
+pub mod Corners
+pub mod QuickSums
+pub mod Rows
+pub mod Filled
+pub mod Aligns
+pub mod Spellings
+pub mod Placed
+pub mod Reading
+pub mod Runs

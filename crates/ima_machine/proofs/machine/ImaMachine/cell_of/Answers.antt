@@ -1,0 +1,8 @@
+use Rattle.std.proofs.Common.{refl}
+use Rattle.machine_core.specs.Rules.{grid}
+use Rattle.ima_machine.specs.Ima.{samples_in}
+use Rattle.ima_machine.specs.ImaRules.{ima_rules}
+use Rattle.ima_machine.proofs.machine.ImaMachine.cell_of.Goals as goal
+
+pub returns : goal.returns
+returns c = c.cell_of.ensures (grid (ima_rules (samples_in c.args.self.now.align))) refl

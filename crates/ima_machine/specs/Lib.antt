@@ -1,0 +1,14 @@
+pub mod Steps
+pub mod Ima
+pub mod Nearest
+pub mod Ladder
+pub mod Boxes
+pub mod Image
+pub mod Floors
+pub mod Rows
+pub mod Quick
+pub mod ImaRules
+pub mod Laws
+pub mod Lawful
+pub mod Spelling
+pub mod Faults

@@ -1,0 +1,5 @@
+pub mod BlocksAgain
+pub mod FilesAgain
+pub mod ReadAgain
+pub mod BadHeads
+pub mod Sizes

@@ -14,3 +14,5 @@ pub mod StoredRead
 pub mod BrrTracks
 pub mod SpuWalks
 pub mod SpuTracks
+pub mod ImaWalks
+pub mod ImaPlaying

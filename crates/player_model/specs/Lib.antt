@@ -11,3 +11,7 @@ pub mod SpuTrack
 pub mod Stored
 pub mod Looped
 pub mod Sound
+pub mod ImaFormat
+pub mod ImaLaws
+pub mod ImaTrack
+pub mod ImaPlayer

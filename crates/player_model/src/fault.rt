@@ -1,4 +1,5 @@
 use block_flags::SplitFault;
+use ima_machine::ImaFault;
 use thiserror::Error;
 
 /// Why stored bytes are no track.
@@ -29,5 +30,13 @@ pub enum TrackFault {
         block: u32,
         /// Its filter, from 5 to 7.
         filter: u8,
+    },
+    /// A block of IMA ADPCM has no head of the decoder.
+    #[error("block {block}: {fault}")]
+    BadHead {
+        /// The number of the first such block.
+        block: u32,
+        /// What is wrong with its head.
+        fault: ImaFault,
     },
 }

@@ -1,4 +1,4 @@
-ghost use Rattle.std.specs.Prelude.{◌≡◌, ◌%◌, ◌<◌, ℕ, ℤ, true, length, List, Option, IfSome, Ok};
+ghost use Rattle.std.specs.Prelude.{◌≡◌, ◌%◌, ◌<◌, ℕ, ℤ, true, length, List, Option, IfSome, IsTrue, Ok};
 ghost use Rattle.adpcm_nums.specs.Round.{round_of};
 ghost use Rattle.machine_core.specs.declared.state.State.{State};
 ghost use Rattle.machine_core.specs.Decoder.{Decoder};
@@ -13,6 +13,8 @@ ghost use Rattle.player_model.specs.Track.{loop_block_of};
 ghost use Rattle.player_model.specs.BrrTrack.{track_of};
 ghost use Rattle.spu_machine.specs.Spu.{spu};
 ghost use Rattle.player_model.specs.SpuFormat.{spu_format};
+ghost use Rattle.ima_machine.specs.Ima.{ima, is_align, samples_in};
+ghost use Rattle.player_model.specs.ImaFormat.{ima_format};
 ghost use Rattle.player_model.specs.SpuTrack.{spu_track_of};
 ghost use Rattle.player_model.specs.Stored.{blocks_in};
 ghost use Rattle.player_model.specs.Sound.{IsTrack};
@@ -45,4 +47,9 @@ pub fn stored_plays_round()
 /// A legal list, whose first block and loop block must forget what was played before, does.
 pub fn legal_begins_anew()
     ensures { (d : Decoder) (list : Blocks) (blocks : ℕ) (loop_block : Option ℕ) → IsLegal d blocks (is_first loop_block) list → 0 < blocks → IfSome loop_block (λ l. l < blocks) → BeginsAnew d list loop_block }
+{}
+
+/// IMA ADPCM is a stored format, whatever the size of its blocks: what is stored is read again.
+pub fn ima_is_stored()
+    ensures { (align : ℕ) → IsTrue (is_align align) → IsStoredFormat (ima (samples_in align)) (ima_format align) }
 {}

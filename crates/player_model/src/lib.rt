@@ -5,6 +5,8 @@ mod brr;
 mod brr_walk;
 mod fault;
 mod format;
+mod ima_player;
+mod ima_walk;
 mod index;
 mod laws;
 mod player;
@@ -18,8 +20,10 @@ mod track;
 pub use brr_walk::{BrrPlayer, BrrTrack, brr_track, play_brr_at};
 pub use fault::TrackFault;
 pub use format::StoredFormat;
+pub use ima_player::{FramePosition, ImaPlayer};
+pub use ima_walk::{ImaTrack, ima_track, play_ima_at};
 pub use laws::{
-    legal_begins_anew, stored_is_brr_track, stored_is_spu_track, stored_is_track,
+    ima_is_stored, legal_begins_anew, stored_is_brr_track, stored_is_spu_track, stored_is_track,
     stored_plays_round,
 };
 pub use player::StoredPlayer;

@@ -1,5 +1,7 @@
 use super::*;
+use adpcm_nums::LoopAt;
 use block_flags::SplitFault;
+use ima_machine::{Ima, ImaFault};
 use std::test::Fail;
 
 /// Two blocks, the second of which repeats: codes 1 under shift 5, then zeros under filter 1.
@@ -113,4 +115,53 @@ fn tells_why_bytes_are_no_track(rt: HostRuntime) {
             fault: SplitFault::NoLoopStart { at: 16 }
         })
     );
+}
+
+/// A block of IMA ADPCM: 0, then eight codes 1 0 0 0 0 0 0 0 from the least step, which give 1 each.
+const STEP: [u8; 8] = [0, 0, 0, 0, 0x01, 0, 0, 0];
+
+#[test]
+fn frames_go_round_their_loop(rt: HostRuntime) -> Result<(), Fail> {
+    let machine = Ima::new(8).ok_or("a block of 8 bytes")?;
+    let track = ima_track(machine, &STEP, 9, None).map_err(|_| "a track")?;
+    assert_eq!(rt; (track.blocks(), track.frames()), (1, 9));
+    let looped = Some(LoopAt { start: 0, end: 1 });
+    let again = ima_track(machine, &STEP, 9, looped).map_err(|_| "a track")?;
+    let mut once = ImaPlayer::new(ima_track(machine, &STEP, 9, None).map_err(|_| "a track")?);
+    let mut round = ImaPlayer::new(ima_track(machine, &STEP, 9, looped).map_err(|_| "a track")?);
+    for i in 0..12u64 {
+        let plain = i32::from(0 < i && i < 9);
+        assert!(rt; once.count() == i);
+        assert!(rt; round.count() == i);
+        assert_eq!(rt;
+            (play_ima_at(&track, i), once.next()),
+            (plain, plain),
+            "output {i}"
+        );
+        let turned = i32::from(i % 2 == 1);
+        assert_eq!(rt;
+            (play_ima_at(&again, i), round.next()),
+            (turned, turned),
+            "output {i}"
+        );
+    }
+    assert_eq!(rt; play_ima_at(&again, u64::MAX), 1);
+    Ok(())
+}
+
+#[test]
+fn tells_the_first_bad_head(rt: HostRuntime) -> Result<(), Fail> {
+    let machine = Ima::new(8).ok_or("a block of 8 bytes")?;
+    let mut bytes = [0u8; 24];
+    bytes[10] = 89;
+    bytes[18] = 200;
+    let fault = ima_track(machine, &bytes, 27, None).err();
+    assert_eq!(rt;
+        fault,
+        Some(TrackFault::BadHead {
+            block: 1,
+            fault: ImaFault::BadIndex { index: 89 }
+        })
+    );
+    Ok(())
 }

@@ -2,7 +2,7 @@
 use Rattle.std.specs.Prelude.{ℕ, ◌+◌, ◌-◌, ◌*◌, ◌==◌, ◌||◌, nat_lt, if◌then◌else◌, List, length, Option, Some, None, Result, Ok, Err}
 use Rattle.adpcm_nums.specs.Outcome.{◌>>=◌}
 use Rattle.player_model.specs.declared.fault.TrackFault.{TrackFault}
-use Rattle.player_model.specs.declared.fault.TrackFault.TheVariants.{NoEnd, BadAgain, Split, BadFilter}
+use Rattle.player_model.specs.declared.fault.TrackFault.TheVariants.{NoEnd, BadAgain, Split, BadFilter, BadHead}
 use Rattle.player_model.specs.Track.{Track, loop_block_of}
 use Rattle.player_model.specs.BrrTrack.{track_of}
 use Rattle.player_model.specs.BrrFormat.{brr_format}
@@ -31,9 +31,10 @@ again_place base start address = if nat_lt address base then start else address 
 abbrev pub entry_fault : ℕ → TrackFault → ImageFault
 entry_fault i (NoEnd at) = BadEntry i
 entry_fault i (BadAgain at) = BadLoopAddress i
--- faults of SPU-ADPCM, which no track of BRR has
+-- faults of other formats, which no track of BRR has
 entry_fault i (Split fault) = BadEntry i
 entry_fault i (BadFilter block filter) = BadEntry i
+entry_fault i (BadHead block fault) = BadEntry i
 
 -- a track, or its fault as the fault of an entry
 abbrev pub tracked : ℕ → Result Track TrackFault → Result Track ImageFault

@@ -61,10 +61,12 @@ fn entry_fault(i: u32, fault: TrackFault) -> ImageFault
 {
     let entry = u64::from(i);
     match fault {
-        TrackFault::NoEnd { .. } => ImageFault::BadEntry { entry },
         TrackFault::BadAgain { .. } => ImageFault::BadLoopAddress { entry },
-        // Faults of SPU-ADPCM, which no track of BRR has.
-        TrackFault::Split { .. } | TrackFault::BadFilter { .. } => ImageFault::BadEntry { entry },
+        TrackFault::NoEnd { .. }
+        // Faults of other formats, which no track of BRR has.
+        | TrackFault::Split { .. }
+        | TrackFault::BadFilter { .. }
+        | TrackFault::BadHead { .. } => ImageFault::BadEntry { entry },
     }
 }
 

@@ -1,0 +1,11 @@
+pub mod ByNumber
+pub mod Scans
+pub mod PlaceSteps
+pub mod Whole
+pub mod FieldLaws
+pub mod Again
+pub mod Put
+pub mod Finding
+pub mod Beginning
+pub mod Writable
+pub mod Segments

@@ -1,0 +1,15 @@
+use Rattle.std.proofs.Common.{◌∙◌, arith}
+use Rattle.bound_cert.proofs.Scans.{cells-go, cells-stop, cells-end}
+use Rattle.bound_cert.proofs.reading.cells_read.Goals as goal
+
+pub loop-i-preserved : goal.loop-i-preserved
+loop-i-preserved c = record {
+  left = cells-go c.args.limits c.args.bytes.now c.loop-i.at c.args.count c.loop-i._i c.loop-i.last c.in-Ok.cell c.loop-i-test.true c.in-Ok.ensures.exact ∙ c.loop-i.invariant.left;
+  place = c.in-Ok.ensures.within;
+}
+
+pub returns-in-Err-clause-exact : goal.returns-in-Err-clause-exact
+returns-in-Err-clause-exact c = cells-stop c.args.limits c.args.bytes.now c.loop-i.at c.args.count c.loop-i._i c.loop-i.last c.in-Err.fault c.loop-i-test.true c.in-Err.ensures.exact ∙ c.loop-i.invariant.left
+
+pub returns-clause-exact : goal.returns-clause-exact
+returns-clause-exact c = cells-end c.args.limits c.args.bytes.now c.loop-i.at c.args.count c.loop-i._i c.loop-i.last (omega arith) ∙ c.loop-i.invariant.left

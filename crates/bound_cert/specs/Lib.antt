@@ -1,0 +1,9 @@
+pub mod Content
+pub mod Places
+pub mod Ranges
+pub mod Grammar
+pub mod Scan
+pub mod Good
+pub mod Spelling
+pub mod Small
+pub mod Filed

@@ -1,0 +1,6 @@
+pub mod Cells
+pub mod Keys
+pub mod Bound
+pub mod Pairs
+pub mod Looking
+pub mod Certificates

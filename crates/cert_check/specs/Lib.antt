@@ -1,0 +1,5 @@
+pub mod Layers
+pub mod Tables
+pub mod Plans
+pub mod Ways
+pub mod Faults

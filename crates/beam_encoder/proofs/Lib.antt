@@ -1,0 +1,11 @@
+pub mod NearLaws
+pub mod Putting
+pub mod Extending
+pub mod Rows
+pub mod WalkLaws
+pub mod Growth
+pub mod KeptLaws
+pub mod Ways
+pub mod Links
+pub mod SortLaws
+pub mod CountLaws

@@ -1,0 +1,4 @@
+pub mod Later
+pub mod Rows
+pub mod Alike
+pub mod Steps

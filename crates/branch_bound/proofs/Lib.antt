@@ -1,0 +1,11 @@
+pub mod Capped
+pub mod Alike
+pub mod Look
+pub mod Values
+pub mod Sound
+pub mod Above
+pub mod Shown
+pub mod Picks
+pub mod Lists
+pub mod Onward
+pub mod Joining

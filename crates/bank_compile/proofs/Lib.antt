@@ -8,4 +8,6 @@ pub mod OutLaws
 pub mod SoundLaws
 pub mod StoredLaws
 pub mod Replaying
+pub mod ImaReplays
+pub mod BankReplays
 pub mod FittedLaws

@@ -1,13 +1,18 @@
--- A compiled sample of BRR is one that can be written into an image.
-use Rattle.std.proofs.Common.{◌≡◌, ℕ, ◌+◌, ◌*◌, ◌/◌, refl, sym, ap, ◌∙◌, arith, List, [], ◌∷◌, length, map, Option, Some, None, Ok}
+-- A compiled sample is one that can be written, alone or into an image.
+use Rattle.std.proofs.Common.{◌≡◌, ℕ, ◌+◌, ◌*◌, ◌/◌, ◌≤◌, refl, sym, ap, ◌∙◌, arith, List, [], ◌∷◌, length, map, Option, Some, None, Ok, false}
 use Rattle.std.specs.Prelude.{IfSome}
 use Rattle.std.specs.List.{sum_by, All, AllByRecursion}
+use Rattle.std.proofs.lemmas.Bool.{cond-false, le-ltb}
 use Rattle.std.proofs.lemmas.List.{take_all, length-map}
 use Rattle.std.proofs.lemmas.List.Elements.{recursion_from_All}
 use Rattle.std.proofs.lemmas.List.Sums.{sum_by-cons}
 use Rattle.std.proofs.lemmas.Nat.{div-mul-add}
 use Rattle.adpcm_nums.specs.Outcome.{◌>>=◌}
+use Rattle.machine_core.specs.Rules.{Rules}
+use Rattle.block_flags.specs.Flags.{tells_start}
 use Rattle.brr_machine.specs.Brr.{brr}
+use Rattle.brr_machine.specs.BrrRules.{brr_rules}
+use Rattle.player_model.specs.Format.{Format}
 use Rattle.player_model.specs.BrrFormat.{brr_format}
 use Rattle.player_model.specs.Looped.{IsStoredAt}
 use Rattle.player_model.specs.Track.{loop_block_of}
@@ -17,48 +22,56 @@ use Rattle.player_model.proofs.BrrTracks.{track-read}
 use Rattle.snes_directory.specs.Layout.{end_of}
 use Rattle.snes_directory.specs.Part.{IsPart, blocks_of, loop_address}
 use Rattle.snes_directory.specs.Spelling.{image_file, written_image}
+use Rattle.vag_writer.specs.Spelling.{vag_file, written_vag}
 use Rattle.bank_compile.specs.declared.sample.SampleOut.{SampleOut}
+use Rattle.bank_compile.specs.Codec.{IsStoredCodec, stored_codec}
 use Rattle.bank_compile.specs.Kinds.{brr_codec}
-use Rattle.bank_compile.specs.Laws.{brr_is_codec}
+use Rattle.bank_compile.specs.Laws.{brr_is_stored, brr_is_flagged}
 use Rattle.bank_compile.specs.Bank.{IsOut, part_of, image_of}
 use Rattle.bank_compile.proofs.StoredLaws.{track_at, stored-list}
 
--- the sample has nine bytes a block
-pub out-length : (out : SampleOut) → IsOut brr_codec out → length out.blocks ≡ 9 * out.fitted.blocks
-out-length out is =
+-- a sample has whole blocks
+pub out-length : (r : Rules) (f : Format) (out : SampleOut) → IsStoredCodec r f → IsOut (stored_codec r f) out → length out.blocks ≡ f.size * out.fitted.blocks
+out-length r f out laws is =
     ap (λ (bs : List ℕ). length bs) is.spelled
-    ∙ length-front brr brr_format is.list out.fitted.blocks out.fitted.loop_block out.fitted.blocks brr_is_codec.stored is.in_range (omega arith)
+    ∙ length-front r.decoder f is.list out.fitted.blocks out.fitted.loop_block out.fitted.blocks laws.stored is.in_range (omega arith)
+
+-- in BRR nine bytes a block
+nine-bytes : (out : SampleOut) → IsOut brr_codec out → length out.blocks ≡ 9 * out.fitted.blocks
+nine-bytes out is = out-length brr_rules brr_format out brr_is_stored is
 
 nine-times : (n : ℕ) → 9 * n / 9 ≡ n
 nine-times n = let e : 9 * n ≡ n * 9 + 0 = omega arith in ap (λ z. z / 9) e ∙ div-mul-add n 9 0 (omega arith)
 
 -- so the image counts as many blocks as were fitted
 pub out-blocks : (out : SampleOut) → IsOut brr_codec out → blocks_of (part_of out) ≡ out.fitted.blocks
-out-blocks out is = ap (λ z. z / 9) (out-length out is) ∙ nine-times out.fitted.blocks
+out-blocks out is = ap (λ z. z / 9) (nine-bytes out is) ∙ nine-times out.fitted.blocks
 
 -- the player of a sample goes on at its loop block
 pub goes-on : (start : ℕ) (loop_block : Option ℕ) → IfSome loop_block (λ l. loop_address start loop_block ≡ start + 9 * l)
 goes-on start None = tt
 goes-on start (Some l) = refl
 
--- alone its bytes are the list's
-pub out-stored : (out : SampleOut) (is : IsOut brr_codec out) → IsStoredAt brr brr_format out.blocks 0 (loop_address 0 out.fitted.loop_block) is.list out.fitted.blocks out.fitted.loop_block
-out-stored out is = record {
+-- alone its bytes are the list's, wherever a player would go on that is not told
+pub out-stored : (r : Rules) (f : Format) (out : SampleOut) (again : ℕ) → IsStoredCodec r f → (is : IsOut (stored_codec r f) out)
+    → (tells_start f.kind ≡ false → IfSome out.fitted.loop_block (λ l. again ≡ 0 + f.size * l))
+    → IsStoredAt r.decoder f out.blocks 0 again is.list out.fitted.blocks out.fitted.loop_block
+out-stored r f out again laws is goes = record {
   some = is.fit.whole.some;
   loop_within = is.fit.whole.loop_block;
-  bytes = take_all (9 * out.fitted.blocks) out.blocks (omega (arith, out-length out is)) ∙ is.spelled;
-  again_is = λ told. goes-on 0 out.fitted.loop_block;
+  bytes = take_all (f.size * out.fitted.blocks) out.blocks (omega (arith, out-length r f out laws is)) ∙ is.spelled;
+  again_is = goes;
 }
 
 -- so the sample can be written into an image
 pub out-part : (out : SampleOut) → IsOut brr_codec out → IsPart (part_of out)
 out-part out is =
-    let len = out-length out is in
+    let len = nine-bytes out is in
     let few = is.fit.whole.few in
     let count = out-blocks out is in
     let again = loop_address 0 out.fitted.loop_block in
     let track = track_at out.blocks 0 again in
-    let stored = stored-list brr_codec out.blocks 0 again is.list out.fitted brr_is_codec is.in_range (out-stored out is) in
+    let stored = stored-list brr_rules brr_format out.blocks 0 again is.list out.fitted brr_is_flagged is.in_range (out-stored brr_rules brr_format out again brr_is_stored is (λ told. goes-on 0 out.fitted.loop_block)) in
     let read = track-read out.blocks 0 again out.fitted.blocks (stored-track brr brr_format (track out.fitted.blocks) is.list out.fitted.loop_block stored) in
     record {
       some_rate = is.some_rate;
@@ -91,3 +104,12 @@ image-written base outs are =
     let file = image_file base (map part_of outs) in
     ap (λ n. end_of base n (sum_by blocks_of (map part_of outs)) >>= (λ total. Ok file)) count
     ∙ ap (λ n. end_of base (length outs) n >>= (λ total. Ok file)) blocks
+
+-- a VAG file whose name is short enough is written
+pub vag-written : (name text : List ℕ) (rate : ℕ) (blocks held bytes : List ℕ) → text ≡ name → held ≡ blocks → length name ≤ 16 → written_vag text rate held ≡ Ok bytes → bytes ≡ vag_file name rate blocks
+unfolding written_vag
+vag-written name text rate blocks held bytes same kept short written =
+    let fits : length text ≤ 16 = (let count = ap (λ (xs : List ℕ). length xs) same in omega (arith, count)) in
+    let file : written_vag text rate held ≡ Ok (vag_file text rate held) = cond-false _ _ _ (le-ltb 16 (length text) fits) in
+    let got : bytes ≡ vag_file text rate held = cc in
+    got ∙ (ap (λ (n : List ℕ). vag_file n rate held) same ∙ ap (vag_file name rate) kept)

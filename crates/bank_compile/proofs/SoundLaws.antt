@@ -12,7 +12,8 @@ use Rattle.adpcm_nums.specs.Sample.{AreSamples}
 use Rattle.machine_core.specs.declared.state.State.{State}
 use Rattle.machine_core.specs.Decoder.{Decoder, start}
 use Rattle.machine_core.specs.Blocks.{Blocks, IsLegal, output_at}
-use Rattle.machine_core.proofs.Places.{block-ends}
+use Rattle.machine_core.specs.Rules.{Rules}
+use Rattle.player_model.specs.Format.{Format}
 use Rattle.loop_fit.specs.declared.fitted.Fitted.{Fitted}
 use Rattle.loop_fit.specs.Fit.{points_of, points_in}
 use Rattle.player_model.specs.Player.{play}
@@ -22,11 +23,11 @@ use Rattle.smpl_loops.proofs.ReadAgain.{read_again}
 use Rattle.wave_form.specs.declared.wave.Wave.{Wave}
 use Rattle.wave_form.specs.Reading.{read_of}
 use Rattle.wave_form.proofs.ReadAgain.{sound_again, loop_again}
-use Rattle.bank_compile.specs.Codec.{Codec, IsCodec, fixed_in}
+use Rattle.bank_compile.specs.Codec.{IsFlagged, stored_codec, fixed_in}
 use Rattle.bank_compile.specs.Passes.{outputs_of}
-use Rattle.bank_compile.specs.Sample.{IsFit, first_of}
+use Rattle.bank_compile.specs.Sample.{IsFit, AreWithin, first_of}
 use Rattle.bank_compile.specs.Bank.{sound_file}
-use Rattle.bank_compile.proofs.StoredLaws.{heard-round}
+use Rattle.bank_compile.proofs.StoredLaws.{heard-round, played-is, frames-are}
 
 -- a file is read as this sound, with this loop
 pub record IsSoundFile (file : List ℕ) (rate : ℕ) (samples : List ℤ) (points : Option LoopAt) : Type 0 where
@@ -35,10 +36,6 @@ pub record IsSoundFile (file : List ℕ) (rate : ℕ) (samples : List ℤ) (poin
   pub rate_is : sound.rate ≡ rate
   pub samples_are : sound.samples ≡ samples
   pub loop_is : first_loop_of sound.sampler (length samples) ≡ Ok points
-
--- points that stand in a sound of so many samples
-abbrev pub AreWithin : ℕ → Option LoopAt → Type 0
-AreWithin count points = IfSome points (λ at. (at.start ≤ at.end) × (at.end < count))
 
 -- the file of a sound is read as that sound, with its loop
 pub sound_file-read : (rate : ℕ) (samples : List ℤ) (points : Option LoopAt) → 1 ≤ rate → rate ≤ 1000000 → length samples ≤ 2 ^ 24 → AreSamples samples
@@ -55,21 +52,9 @@ sound_file-read rate samples (Some at) some low few range within =
     }
 
 -- where no loop stays at its frames, a fit's loop is that of its blocks
-points-are : (d : Decoder) (blocks : ℕ) (loop_block : Option ℕ) (frames : Option LoopAt) → frames ≡ None → loop_points d blocks loop_block ≡ points_in d.samples blocks loop_block frames
+pub points-are : (d : Decoder) (blocks : ℕ) (loop_block : Option ℕ) (frames : Option LoopAt) → frames ≡ None → loop_points d blocks loop_block ≡ points_in d.samples blocks loop_block frames
 points-are d blocks None frames none = sym none
 points-are d blocks (Some l) frames none = refl
-
--- the loop of some blocks stands in them
-points-stand : (samples blocks : ℕ) (loop_block : Option ℕ) (frames : Option LoopAt) → 0 < samples → 0 < blocks → IfSome loop_block (λ l. l < blocks) → frames ≡ None
-    → AreWithin (blocks * samples) (points_in samples blocks loop_block frames)
-points-stand samples blocks None frames some any within none = subst (λ (o : Option LoopAt). AreWithin (blocks * samples) o) (sym none) tt
-points-stand samples blocks (Some l) frames some any within none =
-    let ends : l * samples + samples ≤ blocks * samples = block-ends l samples blocks within in
-    (omega (arith, ends), omega (arith, ends))
-
-pub points-within : (c : Codec) (fitted : Fitted) → IsCodec c → IsFit c fitted → AreWithin (fitted.blocks * c.rules.decoder.samples) (points_of c.rules.decoder.samples fitted)
-points-within c fitted laws fit =
-    points-stand c.rules.decoder.samples fitted.blocks fitted.loop_block fitted.loop_frames laws.laws.some_samples fit.whole.some fit.whole.loop_block fit.frames
 
 -- the outputs of a list
 abbrev pub plain_outputs : Decoder → Blocks → ℕ → List ℤ
@@ -104,13 +89,15 @@ are-outputs d list blocks = record {
 }
 
 -- the player of a stored list gives the first pass and then its loop for ever, or silence
-pub plays-first : (c : Codec) (memory : List ℕ) (begin again : ℕ) (list : Blocks) (fitted : Fitted) (history : State) (i : ℕ) → IsCodec c → IsFit c fitted
-    → IsLegal c.rules.decoder fitted.blocks (fixed_in c fitted) list → IsStoredAt c.rules.decoder c.format memory begin again list fitted.blocks fitted.loop_block
-    → pos c.rules.decoder.scale *ℤ play c.rules.decoder c.format memory begin again history i ≡ round_of (first_of c fitted list) (points_of c.rules.decoder.samples fitted) i
-plays-first c memory begin again list fitted history i laws fit legal stored =
-    let d = c.rules.decoder in
+pub plays-first : (r : Rules) (f : Format) (memory : List ℕ) (begin again : ℕ) (list : Blocks) (fitted : Fitted) (history : State) (i : ℕ) → IsFlagged r f → IsFit (stored_codec r f) fitted
+    → IsLegal r.decoder fitted.blocks (fixed_in (stored_codec r f) fitted) list → IsStoredAt r.decoder f memory begin again list fitted.blocks fitted.loop_block
+    → pos r.decoder.scale *ℤ play r.decoder f memory begin again history i ≡ round_of (first_of (stored_codec r f) fitted list) (points_of r.decoder.samples fitted) i
+plays-first r f memory begin again list fitted history i laws fit legal stored =
+    let d = r.decoder in
     let count = fitted.blocks * d.samples in
-    let heard = heard-round c memory begin again list fitted history i laws fit legal stored (plain_outputs d list count) (are-outputs d list fitted.blocks) in
+    let points = points_of d.samples fitted in
+    let heard = heard-round r f memory begin again list fitted history i laws fit legal stored (plain_outputs d list count) (are-outputs d list fitted.blocks) in
     ap (λ y. pos d.scale *ℤ y) heard
     ∙ (scaled-round d list count (loop_points d fitted.blocks fitted.loop_block) i
-    ∙ ap (λ points. round_of (first_of c fitted list) points i) (points-are d fitted.blocks fitted.loop_block fitted.loop_frames fit.frames))
+    ∙ (ap (λ points. round_of (outputs_of d list count) points i) (points-are d fitted.blocks fitted.loop_block fitted.loop_frames (frames-are r f fitted laws fit))
+    ∙ ap (λ n. round_of (outputs_of d list n) points i) (sym (played-is r f fitted laws))))

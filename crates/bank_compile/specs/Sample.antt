@@ -1,24 +1,48 @@
 -- One sample of a bank: what may be chosen for it, and what is stored and told of the choice.
-use Rattle.std.specs.Prelude.{◌≡◌, ℕ, ◌*◌, ℤ, List, [], ◌∷◌, length, Option, Some, None}
+use Rattle.std.specs.Prelude.{◌≡◌, ◌<◌, ◌≤◌, ℕ, ◌*◌, ℤ, List, [], ◌∷◌, length, Option, Some, None, IfSome}
+use Rattle.adpcm_nums.specs.declared.loop_at.LoopAt.{LoopAt}
+use Rattle.machine_core.specs.declared.state.Kind.{Kind}
+use Rattle.machine_core.specs.declared.state.Kind.TheVariants.{Brr, Spu, Ima}
 use Rattle.machine_core.specs.Blocks.{Blocks, IsLegal}
 use Rattle.machine_core.specs.Sums.{sum_of}
 use Rattle.machine_core.specs.Floors.{floor_of_blocks}
-use Rattle.player_model.specs.Stored.{stored_blocks}
 use Rattle.loop_fit.specs.declared.fitted.Fitted.{Fitted}
-use Rattle.loop_fit.specs.Fit.{IsWhole}
+use Rattle.loop_fit.specs.Fit.{IsWhole, points_of}
 use Rattle.loop_fit.specs.Segments.{segments_of}
 use Rattle.report_text.specs.declared.report.LoopShown.{LoopShown}
-use Rattle.report_text.specs.declared.report.LoopShown.TheVariants.{NoLoop, Block}
+use Rattle.report_text.specs.declared.report.LoopShown.TheVariants.{NoLoop, Block, Frames}
 use Rattle.report_text.specs.declared.report.SampleReport.{SampleReport}
 use Rattle.bank_compile.specs.declared.sample.SampleOut.{SampleOut}
 use Rattle.bank_compile.specs.Beam.{beam_list}
 use Rattle.bank_compile.specs.Passes.{outputs_of}
 use Rattle.bank_compile.specs.Codec.{Codec, fixed_in}
 
--- a sound fitted to blocks of a codec, whose loop lies on whole blocks
+-- how many outputs count as played: those of all blocks, or in IMA ADPCM as many as the source has frames
+abbrev pub played_in : Kind → ℕ → Fitted → ℕ
+played_in Brr samples fitted = fitted.blocks * samples
+played_in Spu samples fitted = fitted.blocks * samples
+played_in Ima samples fitted = fitted.frames
+
+abbrev pub played_of : Codec → Fitted → ℕ
+played_of c fitted = played_in c.rules.kind c.rules.decoder.samples fitted
+
+-- a loop lies on whole blocks, or in IMA ADPCM at its frames
+abbrev pub IsLooped : Kind → Fitted → Type 0
+IsLooped Brr fitted = fitted.loop_frames ≡ None
+IsLooped Spu fitted = fitted.loop_frames ≡ None
+IsLooped Ima fitted = fitted.loop_block ≡ None
+
+-- points that stand among so many samples
+abbrev pub AreWithin : ℕ → Option LoopAt → Type 0
+AreWithin count points = IfSome points (λ at. (at.start ≤ at.end) × (at.end < count))
+
+-- a sound fitted to blocks of a codec
 pub record IsFit (c : Codec) (fitted : Fitted) : Type 0 where
   pub whole : IsWhole c.rules.decoder.samples fitted
-  pub frames : fitted.loop_frames ≡ None
+  pub looped : IsLooped c.rules.kind fitted
+  -- what is played stands in its blocks, and the loop in what is played
+  pub played : played_of c fitted ≤ fitted.blocks * c.rules.decoder.samples
+  pub points : AreWithin (played_of c fitted) (points_of c.rules.decoder.samples fitted)
 
 -- the list of blocks that is stored for a fitted sound
 pub record IsChosen (c : Codec) (fitted : Fitted) (list : Blocks) : Type 0 where
@@ -28,11 +52,11 @@ pub record IsChosen (c : Codec) (fitted : Fitted) (list : Blocks) : Type 0 where
 
 -- the stored bytes
 abbrev pub bytes_of : Codec → Fitted → Blocks → List ℕ
-bytes_of c fitted list = stored_blocks c.rules.decoder c.format list fitted.blocks fitted.loop_block
+bytes_of c fitted list = c.bytes list fitted.blocks fitted.loop_block
 
--- the stored first pass: all outputs, as they are compared with the source
+-- the stored first pass: the outputs that are played, as they are compared with the source
 abbrev pub first_of : Codec → Fitted → Blocks → List ℤ
-first_of c fitted list = outputs_of c.rules.decoder list (fitted.blocks * c.rules.decoder.samples)
+first_of c fitted list = outputs_of c.rules.decoder list (played_of c fitted)
 
 -- the exact squared error, padding included
 abbrev pub error_of : Codec → Fitted → Blocks → ℕ
@@ -42,17 +66,18 @@ error_of c fitted list = sum_of c.rules.decoder list fitted.targets fitted.block
 unfoldable pub bound_of : Codec → Fitted → ℕ
 bound_of c fitted = floor_of_blocks c.rules (fixed_in c fitted) fitted.targets fitted.blocks
 
--- how its loop is told: by the loop block, where there is one
-abbrev pub loop_shown : Option ℕ → LoopShown
-loop_shown None = NoLoop
-loop_shown (Some block) = Block block
+-- how its loop is told: by the loop block, or by its frames
+abbrev pub loop_shown : Option ℕ → Option LoopAt → LoopShown
+loop_shown (Some block) frames = Block block
+loop_shown None (Some at) = Frames at
+loop_shown None None = NoLoop
 
 -- what is told of the sample; no segment is searched
 abbrev pub report_of : Codec → List ℕ → Fitted → Blocks → SampleReport
 report_of c name fitted list = record {
   name = name;
   blocks = fitted.blocks;
-  shown = loop_shown fitted.loop_block;
+  shown = loop_shown fitted.loop_block fitted.loop_frames;
   error = error_of c fitted list;
   bound = bound_of c fitted;
   levels = 0 ∷ 0 ∷ 0 ∷ length (segments_of c.rules.kind fitted.blocks fitted.loop_block) ∷ [];

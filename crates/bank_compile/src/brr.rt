@@ -1,8 +1,11 @@
-ghost use Rattle.std.specs.Prelude.{◌≡◌, ◌<◌, ◌++◌, All, OnOk, length};
+ghost use Rattle.std.specs.Prelude.{◌≡◌, ◌<◌, ◌++◌, All, IfSome, OnOk, length};
 
-use crate::encode::Encode;
-use adpcm_nums::NoMemory;
+use crate::encode::{Encode, Stored};
+use crate::spell::spell_blocks;
+use adpcm_nums::{Bytes, NoMemory};
 use brr_machine::{Brr, BrrBlock, spell_block};
+use machine_core::Choice;
+use std::alloc::Global;
 
 /// The codes of a block.
 fn codes_of(symbols: &[u32]) -> [u8; 16]
@@ -17,15 +20,11 @@ fn codes_of(symbols: &[u32]) -> [u8; 16]
     codes
 }
 
-impl Encode for Brr {
+impl Stored for Brr {
     ghost use Rattle.player_model.specs.BrrFormat.{brr_format};
-    ghost use Rattle.bank_compile.specs.Laws.{brr_is_codec};
+    ghost use Rattle.bank_compile.specs.Laws.{brr_is_stored};
 
     ghost format = { λ _. brr_format };
-
-    fn scale(&self) -> i32 {
-        2
-    }
 
     fn block_size(&self) -> u32 {
         9
@@ -43,6 +42,29 @@ impl Encode for Brr {
             Ok(()) => Ok(()),
             Err(_) => Err(NoMemory),
         }
+    }
+
+    ghost stored = { λ _. brr_is_stored };
+}
+
+impl Encode for Brr {
+    ghost use Rattle.bank_compile.specs.Kinds.{brr_codec};
+    ghost use Rattle.bank_compile.specs.Laws.{brr_is_codec};
+
+    ghost bytes = { λ _. brr_codec.bytes };
+
+    fn scale(&self) -> i32 {
+        2
+    }
+
+    fn spell(
+        &self,
+        alloc: Global,
+        choice: &Choice,
+        blocks: u32,
+        loop_block: Option<u32>,
+    ) -> Result<Bytes, NoMemory> {
+        spell_blocks(alloc, self, choice, blocks, loop_block)
     }
 
     ghost encodes = { λ _. brr_is_codec };

@@ -18,28 +18,30 @@ fn scaled(scale: i32, at: State) -> i32
     scale * at.a
 }
 
-/// The outputs of a list of blocks in 16-bit steps, each `scale` times what the decoder gives.
+/// The first outputs of a list of blocks in 16-bit steps, each `scale` times what the decoder gives.
 pub(crate) fn outputs<M: Machine>(
     alloc: Global,
     machine: &M,
     scale: i32,
     choice: &Choice,
     blocks: u32,
+    count: u32,
 ) -> Result<Samples, NoMemory>
     requires in_range { IsInRange (M.rules machine.now).decoder blocks (list_of choice.now) }
     requires few { blocks * (M.rules machine.now).decoder.samples ≤ 262144 }
+    requires within { count ≤ blocks * (M.rules machine.now).decoder.samples }
     requires scale { scale ≡ pos (M.rules machine.now).decoder.scale }
     requires range { (at : State) → IsTrue ((M.rules machine.now).decoder.is_state at) → IsSample (scale *ℤ at.a) }
     ensures range { IfOk result AreSamples }
-    ensures value { IfOk result (λ samples. samples ≡ outputs_of (M.rules machine.now).decoder (list_of choice.now) (blocks * (M.rules machine.now).decoder.samples)) }
+    ensures value { IfOk result (λ samples. samples ≡ outputs_of (M.rules machine.now).decoder (list_of choice.now) count) }
 {
     let samples = machine.block_samples();
     let heads = choice.heads.as_slice();
     let symbols = choice.symbols.as_slice();
-    let room = Vec::with_capacity(alloc, symbols.len()).map_err(|_| NoMemory)?;
+    let room = Vec::with_capacity(alloc, count as usize).map_err(|_| NoMemory)?;
     let mut outputs = Samples::from_vec(room);
     let mut state = State { a: 0, b: 0 };
-    for i in 0..blocks * samples {
+    for i in 0..count {
         state = machine.step(
             heads[(i / samples) as usize],
             i % samples,

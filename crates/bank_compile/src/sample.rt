@@ -1,16 +1,15 @@
-ghost use Rattle.std.specs.Prelude.{◌≡◌, ◌≤◌, IfOk, length};
+ghost use Rattle.std.specs.Prelude.{◌≡◌, ◌≤◌, ◌*◌, IfOk, length};
 ghost use Rattle.loop_fit.specs.Segments.{segments_of};
 ghost use Rattle.bank_compile.specs.Codec.{codec_of};
-ghost use Rattle.bank_compile.specs.Sample.{IsFit, IsCompiled, bound_of, loop_shown};
+ghost use Rattle.bank_compile.specs.Sample.{IsFit, IsCompiled, bound_of, loop_shown, played_in};
 ghost use Rattle.bank_compile.specs.Bank.{IsOut};
 
 use crate::encode::Encode;
 use crate::greedy::greedy;
 use crate::passes::outputs;
-use crate::spell::spell_blocks;
-use adpcm_nums::{Bytes, NoMemory, Samples, Text};
+use adpcm_nums::{Bytes, LoopAt, NoMemory, Samples, Text};
 use loop_fit::{Fitted, segments};
-use machine_core::floor_of_blocks;
+use machine_core::{Kind, floor_of_blocks};
 use report_text::{LoopShown, SampleReport};
 use std::alloc::Global;
 
@@ -34,18 +33,30 @@ pub struct SampleOut {
 }
 
 /// Where the loop of a fitted sound is, as it is told.
-fn shown(loop_block: Option<u32>) -> LoopShown
-    ensures { result ≡ loop_shown loop_block }
+fn shown(loop_block: Option<u32>, loop_frames: Option<LoopAt>) -> LoopShown
+    ensures { result ≡ loop_shown loop_block loop_frames }
 {
-    match loop_block {
-        None => LoopShown::NoLoop,
-        Some(block) => LoopShown::Block { block },
+    match (loop_block, loop_frames) {
+        (Some(block), _) => LoopShown::Block { block },
+        (None, Some(at)) => LoopShown::Frames { at },
+        (None, None) => LoopShown::NoLoop,
+    }
+}
+
+/// How many outputs of a fitted sound count as played, where a block has so many samples.
+fn played(kind: Kind, samples: u32, fitted: &Fitted) -> u32
+    requires { fitted.now.blocks * samples ≤ 262144 }
+    ensures { result ≡ played_in kind samples fitted.now }
+{
+    match kind {
+        Kind::Brr | Kind::Spu => fitted.blocks * samples,
+        Kind::Ima => fitted.frames,
     }
 }
 
 /// How many segments a fitted sound has.
 fn segment_count<C: Encode>(alloc: Global, codec: &C, fitted: &Fitted) -> Result<u32, NoMemory>
-    requires { IsFit (codec_of (C.rules codec.now) (C.format codec.now)) fitted.now }
+    requires { IsFit (codec_of (C.rules codec.now) (C.bytes codec.now)) fitted.now }
     ensures { IfOk result (λ count. count ≡ length (segments_of (C.rules codec.now).kind fitted.now.blocks fitted.now.loop_block)) }
 {
     let list = segments(alloc, codec.kind(), fitted.blocks, fitted.loop_block)?;
@@ -57,8 +68,8 @@ fn segment_count<C: Encode>(alloc: Global, codec: &C, fitted: &Fitted) -> Result
 #[inline(never)]
 #[tactic(auto, unfolding(crate::specs::Sample::bound_of))]
 fn bound<C: Encode>(codec: &C, fitted: &Fitted) -> u64
-    requires { IsFit (codec_of (C.rules codec.now) (C.format codec.now)) fitted.now }
-    ensures { result ≡ bound_of (codec_of (C.rules codec.now) (C.format codec.now)) fitted.now }
+    requires { IsFit (codec_of (C.rules codec.now) (C.bytes codec.now)) fitted.now }
+    ensures { result ≡ bound_of (codec_of (C.rules codec.now) (C.bytes codec.now)) fitted.now }
 {
     floor_of_blocks(
         codec,
@@ -76,21 +87,23 @@ pub(crate) fn encoded<C: Encode>(
     rate: u32,
     fitted: Fitted,
 ) -> Result<SampleOut, NoMemory>
+    requires short { length name.now ≤ 16 }
     requires some_rate { 1 ≤ rate }
     requires high_rate { rate ≤ 1000000 }
-    requires fit { IsFit (codec_of (C.rules codec.now) (C.format codec.now)) fitted }
-    ensures compiled { IfOk result (IsCompiled (codec_of (C.rules codec.now) (C.format codec.now)) name.now rate fitted) }
-    ensures out { IfOk result (IsOut (codec_of (C.rules codec.now) (C.format codec.now))) }
+    requires fit { IsFit (codec_of (C.rules codec.now) (C.bytes codec.now)) fitted }
+    ensures compiled { IfOk result (IsCompiled (codec_of (C.rules codec.now) (C.bytes codec.now)) name.now rate fitted) }
+    ensures out { IfOk result (IsOut (codec_of (C.rules codec.now) (C.bytes codec.now))) }
     ensures bound { IfOk result (λ out. out.report.bound ≤ out.report.error) }
 {
     let targets = fitted.targets.as_slice();
     let choice = greedy(alloc, codec, targets, fitted.blocks, fitted.loop_block)?;
-    let blocks = spell_blocks(alloc, codec, &choice, fitted.blocks, fitted.loop_block)?;
-    let first = outputs(alloc, codec, codec.scale(), &choice, fitted.blocks)?;
+    let blocks = codec.spell(alloc, &choice, fitted.blocks, fitted.loop_block)?;
+    let count = played(codec.kind(), codec.block_samples(), &fitted);
+    let first = outputs(alloc, codec, codec.scale(), &choice, fitted.blocks, count)?;
     let report = SampleReport {
         name: Text::copy_of(alloc, name)?,
         blocks: fitted.blocks,
-        shown: shown(fitted.loop_block),
+        shown: shown(fitted.loop_block, fitted.loop_frames),
         error: choice.sum,
         bound: bound(codec, &fitted),
         levels: [0, 0, 0, segment_count(alloc, codec, &fitted)?],

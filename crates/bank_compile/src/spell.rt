@@ -1,16 +1,27 @@
 ghost use Rattle.std.specs.Prelude.{◌≡◌, ◌<◌, ◌++◌, IfOk, OnOk, IfSome};
 ghost use Rattle.machine_core.specs.Blocks.{IsInRange};
+ghost use Rattle.block_flags.specs.Flags.{flags_of_block};
 ghost use Rattle.player_model.specs.Stored.{stored_block, stored_blocks};
 ghost use Rattle.bank_compile.specs.Chosen.{list_of};
 
-use crate::encode::Encode;
+use crate::encode::Stored;
 use adpcm_nums::{Bytes, NoMemory};
 use block_flags::flagged;
-use machine_core::Choice;
+use machine_core::{Choice, Kind};
 use std::alloc::Global;
 
+/// The written flags of a block; in IMA ADPCM it has none.
+fn written_flags(kind: Kind, b: u32, blocks: u32, loop_block: Option<u32>) -> u8
+    ensures { result ≡ flags_of_block kind b blocks loop_block }
+{
+    match kind {
+        Kind::Brr | Kind::Spu => flagged(kind, b, blocks, loop_block),
+        Kind::Ima => 0,
+    }
+}
+
 /// Adds the bytes of block `b` of a list, with its written flags.
-fn push_stored<C: Encode>(
+fn push_stored<C: Stored>(
     codec: &C,
     bytes: &mut Vec<u8>,
     choice: &Choice,
@@ -27,13 +38,13 @@ fn push_stored<C: Encode>(
     let first = b as usize * samples;
     let head = choice.heads.as_slice()[b as usize];
     let symbols = &choice.symbols.as_slice()[first..first + samples];
-    let flags = flagged(codec.kind(), b, blocks, loop_block);
+    let flags = written_flags(codec.kind(), b, blocks, loop_block);
     codec.push_block(bytes, head, flags, symbols)
 }
 
 /// The bytes of a list of blocks as they are stored, each block with its written flags.
 #[tactic(auto, unfolding(player_model::specs::Stored::stored_front))]
-pub(crate) fn spell_blocks<C: Encode>(
+pub(crate) fn spell_blocks<C: Stored>(
     alloc: Global,
     codec: &C,
     choice: &Choice,

@@ -30,15 +30,16 @@ fn sample_lines(alloc: Global, outs: &[SampleOut]) -> Result<String, NoMemory>
     Ok(text)
 }
 
-/// What is told of a bank of these samples: a line for each, and the line that ends the report (this project's own choice).
+/// What is told of a bank of these samples, of which so many files are stored: a line for each, and the line that ends the
+/// report (this project's own choice).
 #[tactic(auto, unfolding(crate::specs::Told::report_text))]
-pub fn report(alloc: Global, outs: &[SampleOut]) -> Result<Text, NoMemory>
+pub fn report(alloc: Global, outs: &[SampleOut], files: u32) -> Result<Text, NoMemory>
     requires few { length outs.now ≤ 64 }
     requires bounds { All (λ out. out.report.bound ≤ out.report.error) outs.now }
-    ensures { IfOk result (λ text. text ≡ report_text outs.now) }
+    ensures { IfOk result (λ text. text ≡ report_text outs.now files) }
 {
     let mut text = sample_lines(alloc, outs)?;
     let samples = outs.len() as u32;
-    push_text(&mut text, done_line(alloc, samples, samples + 1)?.as_str())?;
+    push_text(&mut text, done_line(alloc, samples, files)?.as_str())?;
     Ok(Text::from_string(text))
 }

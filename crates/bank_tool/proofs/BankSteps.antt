@@ -1,35 +1,34 @@
 -- The sources of a bank and its files, over plain variables.
-use Rattle.std.proofs.Common.{◌≡◌, ℕ, zero, suc, ◌≤◌, List, [], ◌∷◌, map, refl, sym, ap, subst, ◌∙◌, arith, Some, option_map, Result, Ok, Err, slice_get, All, length}
-use Rattle.std.specs.List.{AllZip}
+use Rattle.std.proofs.Common.{◌≡◌, ℕ, zero, suc, ◌+◌, ◌*◌, ◌≤◌, List, [], ◌∷◌, ◌++◌, map, refl, sym, ap, subst, ◌∙◌, arith, get_or, Some, Result, Ok, Err, slice_get, All, length}
+use Rattle.std.specs.List.{AllZip, IsDistinct, flat_map}
 use Rattle.std.specs.Result.{IfOk}
-use Rattle.std.proofs.lemmas.List.{length-map}
-use Rattle.std.proofs.lemmas.List.Concat.{flat_map_single}
-use Rattle.std.proofs.lemmas.Option.{slice_get_within, get_or_from_slice_get, slice_get-map}
+use Rattle.std.specs.Str.{bytes_eq}
+use Rattle.std.proofs.lemmas.List.{length-append, map-append}
+use Rattle.std.proofs.lemmas.List.Folds.{flat_map-map}
+use Rattle.std.proofs.lemmas.Option.{slice_get_within, get_or_from_slice_get, slice_get-get_or}
 use Rattle.adpcm_nums.specs.Outcome.{Gives, ◌>>=◌}
 use Rattle.adpcm_nums.proofs.OutcomeLaws.{went_on}
-use Rattle.host_files.specs.Outside.{World, Files}
+use Rattle.host_files.specs.Outside.{World, Files, content_of}
 use Rattle.host_files.specs.declared.named_file.NamedFile.{NamedFile}
 use Rattle.machine_core.specs.declared.state.Kind.{Kind}
-use Rattle.machine_core.specs.declared.state.Kind.TheVariants.{Brr}
+use Rattle.machine_core.specs.declared.state.Kind.TheVariants.{Brr, Spu, Ima}
+use Rattle.loop_fit.specs.declared.rule.FitRule.{FitRule}
 use Rattle.manifest_reader.specs.declared.manifest.SampleEntry.{SampleEntry}
 use Rattle.manifest_reader.specs.Meaning.{Content}
-use Rattle.manifest_reader.specs.Stored.{first_pass_of, stored_endings, names_with, stored_names}
+use Rattle.manifest_reader.specs.Stored.{joined, image_names, stored_endings, stored_names}
 use Rattle.snes_directory.specs.Layout.{is_past_end}
-use Rattle.brr_machine.specs.Brr.{brr}
-use Rattle.player_model.specs.BrrFormat.{brr_format}
-use Rattle.player_model.specs.Stored.{blocks_in}
-use Rattle.bank_compile.specs.Kinds.{brr_codec}
+use Rattle.bank_compile.specs.Kinds.{codec_for}
 use Rattle.bank_compile.specs.declared.sample.SampleOut.{SampleOut}
-use Rattle.bank_compile.specs.Bank.{bank_of, image_of, bank_files, first_file}
-use Rattle.bank_compile.specs.Told.{file_count}
-use Rattle.bank_compile.specs.Replay.{ImageReplays}
+use Rattle.bank_compile.specs.Bank.{bank_of, image_of, image_files, sample_files}
+use Rattle.bank_compile.specs.Replay.{IsHeld, SampleReplays}
 use Rattle.bank_compile.specs.Bound.{IsBound}
 use Rattle.report_text.specs.declared.report.SampleReport.{SampleReport}
 use Rattle.command_plan.specs.declared.status.Status.{Status}
 use Rattle.command_plan.specs.declared.status.Status.TheVariants.{Full, Memory}
-use Rattle.command_plan.specs.Plan.{names_in}
+use Rattle.command_plan.specs.Plan.{names_in, all_stored}
 use Rattle.command_plan.specs.Reading.{then_read, decided, read_each, status_of, Declines}
 use Rattle.command_plan.specs.Steps.{HasRead, Halts, ReadsTo}
+use Rattle.command_plan.proofs.Kept.{kept_at}
 use Rattle.command_plan.proofs.Readings.{halts_first}
 use Rattle.command_plan.proofs.Tested.{tested_after}
 use Rattle.bank_tool.specs.declared.source.Source.{Source}
@@ -38,24 +37,40 @@ use Rattle.bank_tool.specs.Stored.{IsStored}
 use Rattle.bank_tool.specs.Compile.{each_of, source_in, source_reading, sources_in, sources_reading, bank_end, with_room, bank_names, IsMadeOf}
 use Rattle.bank_tool.proofs.SourceSteps.{test-declines}
 
-room-declines : (bank : List ℕ) (base : ℕ) (sources : List Source) → Declines (with_room bank base sources)
+room-declines : (kind : Kind) (bank : List ℕ) (base : ℕ) (sources : List Source) → Declines (with_room kind bank base sources)
 unfolding with_room
-room-declines bank base sources = test-declines (is_past_end (bank_end base sources)) (Err (Full bank (bank_end base sources))) (Ok sources) refl tt
+room-declines Brr bank base sources = test-declines (is_past_end (bank_end base sources)) (Err (Full bank (bank_end base sources))) (Ok sources) refl tt
+room-declines Spu bank base sources = tt
+room-declines Ima bank base sources = tt
 
 -- one of the sources was refused
-pub sources_refused : (files : Files) (m : Content) (entries : List SampleEntry) (a b : World) (s : Status) → entries ≡ m.samples → Halts (read_each (source_reading files (rule_of m)) entries) a b s → Halts (sources_reading files m) a b s
-sources_refused files m entries a b s e h =
-    halts_first (read_each (source_reading files (rule_of m)) m.samples) (decided (status_of (sources_in files m >>= with_room m.bank m.base))) a b s
-    (subst (λ (es : List SampleEntry). Halts (read_each (source_reading files (rule_of m)) es) a b s) e h)
+pub sources_refused : (files : Files) (m : Content) (rule : FitRule) (entries : List SampleEntry) (a b : World) (s : Status) → rule ≡ rule_of m → entries ≡ m.samples → Halts (read_each (source_reading files rule) entries) a b s → Halts (sources_reading files m) a b s
+sources_refused files m rule entries a b s ruled e h =
+    let same = subst (λ (r : FitRule). Halts (read_each (source_reading files r) entries) a b s) ruled h in
+    halts_first (read_each (source_reading files (rule_of m)) m.samples) (decided (status_of (sources_in files m >>= with_room m.kind m.bank m.base))) a b s
+    (subst (λ (es : List SampleEntry). Halts (read_each (source_reading files (rule_of m)) es) a b s) e same)
+
+-- the sources that were read
+record AreRead (files : Files) (m : Content) (sources : List Source) (a b : World) : Type 0 where
+  has : HasRead (read_each (source_reading files (rule_of m)) m.samples) a b
+  all : sources_in files m ≡ Ok sources
+
+are-read : (files : Files) (m : Content) (rule : FitRule) (entries : List SampleEntry) (sources : List Source) (a b : World) → rule ≡ rule_of m → entries ≡ m.samples
+    → HasRead (read_each (source_reading files rule) entries) a b → each_of (source_in files rule) entries ≡ Ok sources → AreRead files m sources a b
+are-read files m rule entries sources a b ruled e h each =
+    let same = subst (λ (r : FitRule). HasRead (read_each (source_reading files r) entries) a b) ruled h in
+    record {
+      has = subst (λ (es : List SampleEntry). HasRead (read_each (source_reading files (rule_of m)) es) a b) e same;
+      all = ap (each_of (source_in files (rule_of m))) (sym e) ∙ (ap (λ (r : FitRule). each_of (source_in files r) entries) (sym ruled) ∙ each);
+    }
 
 -- all were read, and there is room for them or not
-pub sources_tested : {V : Type 0} (items : V → List Source) (files : Files) (m : Content) (entries : List SampleEntry) (bank : List ℕ) (v : V) (r : Result V Status) (a b : World) → entries ≡ m.samples → bank ≡ m.bank → HasRead (read_each (source_reading files (rule_of m)) entries) a b → each_of (source_in files (rule_of m)) entries ≡ Ok (items v) → IfOk r (λ w. w ≡ v) → Gives Memory items r (with_room bank m.base (items v)) → ReadsTo (sources_reading files m) a b r (λ w. sources_in files m ≡ Ok (items w))
-sources_tested items files m entries bank v r a b e n h each same g =
-    let read = subst (λ (es : List SampleEntry). HasRead (read_each (source_reading files (rule_of m)) es) a b) e h in
-    let all : sources_in files m ≡ Ok (items v) = ap (each_of (source_in files (rule_of m))) (sym e) ∙ each in
-    let room = subst (λ (x : List ℕ). Gives Memory items r (with_room x m.base (items v))) n g in
-    subst (λ (x : Result (List Source) Status). ReadsTo (then_read (read_each (source_reading files (rule_of m)) m.samples) (decided (status_of (x >>= with_room m.bank m.base)))) a b r (λ w. sources_in files m ≡ Ok (items w))) (sym all)
-    (tested_after (read_each (source_reading files (rule_of m)) m.samples) items r (with_room m.bank m.base (items v)) v (λ w. sources_in files m ≡ Ok (items w)) a b read (room-declines m.bank m.base (items v)) room same all)
+pub sources_tested : {V : Type 0} (items : V → List Source) (files : Files) (m : Content) (rule : FitRule) (entries : List SampleEntry) (bank : List ℕ) (v : V) (r : Result V Status) (a b : World) → rule ≡ rule_of m → entries ≡ m.samples → bank ≡ m.bank → HasRead (read_each (source_reading files rule) entries) a b → each_of (source_in files rule) entries ≡ Ok (items v) → IfOk r (λ w. w ≡ v) → Gives Memory items r (with_room m.kind bank m.base (items v)) → ReadsTo (sources_reading files m) a b r (λ w. sources_in files m ≡ Ok (items w))
+sources_tested items files m rule entries bank v r a b ruled e n h each same g =
+    let read = are-read files m rule entries (items v) a b ruled e h each in
+    let room = subst (λ (x : List ℕ). Gives Memory items r (with_room m.kind x m.base (items v))) n g in
+    subst (λ (x : Result (List Source) Status). ReadsTo (then_read (read_each (source_reading files (rule_of m)) m.samples) (decided (status_of (x >>= with_room m.kind m.bank m.base)))) a b r (λ w. sources_in files m ≡ Ok (items w))) (sym read.all)
+    (tested_after (read_each (source_reading files (rule_of m)) m.samples) items r (with_room m.kind m.bank m.base (items v)) v (λ w. sources_in files m ≡ Ok (items w)) a b read.has (room-declines m.kind m.bank m.base (items v)) room same read.all)
 
 -- what holds of all elements, at one place
 pub all_at : {X : Type 0} (P : X → Type 0) (xs : List X) (j : ℕ) (x : X) → All P xs → slice_get xs j ≡ Some x → P x
@@ -68,55 +83,93 @@ zip_at R (a ∷ xs) [] j x y h p q = absurd h
 zip_at R (a ∷ xs) (b ∷ ys) zero x y h p q = let one : a ≡ x = cc in let two : b ≡ y = cc in subst (λ z. R z y) one (subst (λ z. R a z) two h.0)
 zip_at R (a ∷ xs) (b ∷ ys) (suc j) x y h p q = zip_at R xs ys j x y h.1 p q
 
-first-names : (bank : List ℕ) (outs : List SampleOut) → names_in (map (first_file brr_codec bank) outs) ≡ map (λ (o : SampleOut). first_pass_of bank o.name) outs
-first-names bank [] = refl
-first-names bank (o ∷ outs) = ap (λ ns. first_pass_of bank o.name ∷ ns) (first-names bank outs)
+-- the files of a sample have its names
+sample-names : (kind : Kind) (block : ℕ) (bank : List ℕ) (out : SampleOut) → names_in (sample_files kind block bank out) ≡ map (joined bank out.name) (stored_endings kind)
+sample-names Brr block bank out = refl
+sample-names Spu block bank out = refl
+sample-names Ima block bank out = refl
 
-made-names : (bank : List ℕ) (sources : List Source) (outs : List SampleOut) → AllZip IsMadeOf sources outs → map (λ (o : SampleOut). first_pass_of bank o.name) outs ≡ map (λ (s : Source). first_pass_of bank s.name) sources
-made-names bank [] [] h = refl
-made-names bank [] (o ∷ outs) h = absurd h
-made-names bank (s ∷ sources) [] h = absurd h
-made-names bank (s ∷ sources) (o ∷ outs) h =
-    ap (λ (x : SampleOut). first_pass_of bank x.name ∷ map (λ (o : SampleOut). first_pass_of bank o.name) outs) h.0.made
-    ∙ ap (λ ns. first_pass_of bank s.name ∷ ns) (made-names bank sources outs h.1)
+-- and those of all samples have the names of the sources that they were made of
+made-names : (kind : Kind) (block : ℕ) (bank : List ℕ) (sources : List Source) (outs : List SampleOut) → AllZip (IsMadeOf kind block) sources outs
+    → names_in (flat_map (sample_files kind block bank) outs) ≡ flat_map (λ (s : Source). map (joined bank s.name) (stored_endings kind)) sources
+made-names kind block bank [] [] h = refl
+made-names kind block bank [] (o ∷ outs) h = absurd h
+made-names kind block bank (s ∷ sources) [] h = absurd h
+made-names kind block bank (s ∷ sources) (o ∷ outs) h =
+    map-append (λ (f : NamedFile). f.name) (sample_files kind block bank o) (flat_map (sample_files kind block bank) outs)
+    ∙ ap (λ ns. ns ++ names_in (flat_map (sample_files kind block bank) outs)) (sample-names kind block bank o ∙ ap (λ (x : SampleOut). map (joined bank x.name) (stored_endings kind)) h.0.made)
+    ∙ ap (λ ns. map (joined bank s.name) (stored_endings kind) ++ ns) (made-names kind block bank sources outs h.1)
 
-map_map : {X Y Z : Type 0} (f : Y → Z) (g : X → Y) (xs : List X) → map f (map g xs) ≡ map (λ x. f (g x)) xs
-map_map f g [] = refl
-map_map f g (x ∷ xs) = ap (λ zs. f (g x) ∷ zs) (map_map f g xs)
+-- where two lists have one name after another alike, so have their files
+named-alike : (f : List ℕ → List (List ℕ)) (sources : List Source) (entries : List SampleEntry) → map (λ (s : Source). s.name) sources ≡ map (λ (e : SampleEntry). e.name) entries
+    → flat_map (λ (s : Source). f s.name) sources ≡ flat_map (λ (e : SampleEntry). f e.name) entries
+named-alike f sources entries same =
+    sym (flat_map-map f (λ (s : Source). s.name) sources) ∙ (ap (flat_map f) same ∙ flat_map-map f (λ (e : SampleEntry). e.name) entries)
 
--- the files of a bank are its image and the first pass of each sample
-pub bank-files : (bank : List ℕ) (base : ℕ) (outs : List SampleOut) (writes : List NamedFile) → bank_of bank base outs ≡ Ok writes → (image : List ℕ) × (writes ≡ bank_files bank image outs)
+-- the file of all blocks has the bank's name
+image-names : (kind : Kind) (bank : List ℕ) (base : ℕ) (outs : List SampleOut) (images : List NamedFile) → image_files kind bank base outs ≡ Ok images
+    → (names_in images ≡ image_names kind bank) × (length images ≤ 1)
+image-names Brr bank base outs images e =
+    let made = went_on (image_of base outs) (λ image. Ok (record { name = bank; bytes = image } ∷ [])) images e in
+    let same : record { name = bank; bytes = made.0 } ∷ [] ≡ images = (let last = made.2 in cc) in
+    (ap names_in (sym same), subst (λ (fs : List NamedFile). length fs ≤ 1) same (omega arith))
+image-names Spu bank base outs images e = let same : [] ≡ images = cc in (ap names_in (sym same), subst (λ (fs : List NamedFile). length fs ≤ 1) same (omega arith))
+image-names Ima bank base outs images e = let same : [] ≡ images = cc in (ap names_in (sym same), subst (λ (fs : List NamedFile). length fs ≤ 1) same (omega arith))
+
+-- no sample has more than two files
+sample-few : (kind : Kind) (block : ℕ) (bank : List ℕ) (out : SampleOut) → length (sample_files kind block bank out) ≤ 2
+sample-few Brr block bank out = omega arith
+sample-few Spu block bank out = omega arith
+sample-few Ima block bank out = omega arith
+
+samples-few : (kind : Kind) (block : ℕ) (bank : List ℕ) (outs : List SampleOut) → length (flat_map (sample_files kind block bank) outs) ≤ 2 * length outs
+samples-few kind block bank [] = omega arith
+samples-few kind block bank (o ∷ outs) =
+    let here = sample-few kind block bank o in
+    let later = samples-few kind block bank outs in
+    let all = length-append (sample_files kind block bank o) (flat_map (sample_files kind block bank) outs) in
+    omega (arith, here, later, all)
+
+-- the files of a bank: what stands for all blocks, and then the files of each sample
+pub record AreFiles (m : Content) (outs : List SampleOut) (writes : List NamedFile) : Type 0 where
+  pub images : List NamedFile
+  pub images_are : image_files m.kind m.bank m.base outs ≡ Ok images
+  pub files_are : writes ≡ images ++ flat_map (sample_files m.kind m.block m.bank) outs
+
+pub bank-files : (m : Content) (outs : List SampleOut) (writes : List NamedFile) → bank_of m.kind m.block m.bank m.base outs ≡ Ok writes → AreFiles m outs writes
 unfolding bank_of
-bank-files bank base outs writes e =
-    let made = went_on (image_of base outs) (λ image. Ok (bank_files bank image outs)) writes e in
-    (made.0, (let same = made.2 in cc))
+bank-files m outs writes e =
+    let made = went_on (image_files m.kind m.bank m.base outs) (λ images. Ok (images ++ flat_map (sample_files m.kind m.block m.bank) outs)) writes e in
+    record { images = made.0; images_are = made.1; files_are = (let same = made.2 in cc) }
 
--- so they have the names of its samples
-pub names_stored : (m : Content) (sources : List Source) (outs : List SampleOut) (image : List ℕ) → m.kind ≡ Brr → map (λ (s : Source). s.name) sources ≡ map (λ (e : SampleEntry). e.name) m.samples → AllZip IsMadeOf sources outs
-    → names_in (bank_files m.bank image outs) ≡ bank_names m
+-- so they have the names of a bank's files
+pub names_stored : (m : Content) (sources : List Source) (outs : List SampleOut) (writes : List NamedFile) → map (λ (s : Source). s.name) sources ≡ map (λ (e : SampleEntry). e.name) m.samples
+    → AllZip (IsMadeOf m.kind m.block) sources outs → AreFiles m outs writes → names_in writes ≡ bank_names m
 unfolding stored_names
-names_stored m sources outs image kind named made =
-    ap (λ ns. m.bank ∷ ns) (first-names m.bank outs
-    ∙ made-names m.bank sources outs made
-    ∙ sym (map_map (first_pass_of m.bank) (λ (s : Source). s.name) sources)
-    ∙ ap (map (first_pass_of m.bank)) named
-    ∙ map_map (first_pass_of m.bank) (λ (e : SampleEntry). e.name) m.samples
-    ∙ sym (flat_map_single (λ (e : SampleEntry). first_pass_of m.bank e.name) m.samples))
-    ∙ ap (λ (k : Kind). names_with (stored_endings k) k m.bank m.samples) (sym kind)
+names_stored m sources outs writes named made files =
+    ap names_in files.files_are
+    ∙ map-append (λ (f : NamedFile). f.name) files.images (flat_map (sample_files m.kind m.block m.bank) outs)
+    ∙ ap (λ ns. ns ++ names_in (flat_map (sample_files m.kind m.block m.bank) outs)) (image-names m.kind m.bank m.base outs files.images files.images_are).0
+    ∙ ap (λ ns. image_names m.kind m.bank ++ ns) (made-names m.kind m.block m.bank sources outs made ∙ named-alike (λ n. map (joined m.bank n) (stored_endings m.kind)) sources m.samples named)
 
--- an image and a first pass for each sample
-pub count_stored : (bank image : List ℕ) (outs : List SampleOut) → file_count (length outs) ≡ length (bank_files bank image outs)
-count_stored bank image outs = ap suc (sym (length-map outs (first_file brr_codec bank)))
+-- and there are few
+pub few_files : (m : Content) (outs : List SampleOut) (writes : List NamedFile) → AreFiles m outs writes → length writes ≤ 1 + 2 * length outs
+few_files m outs writes files =
+    let image = (image-names m.kind m.bank m.base outs files.images files.images_are).1 in
+    let samples = samples-few m.kind m.block m.bank outs in
+    let all = ap (λ (fs : List NamedFile). length fs) files.files_are ∙ length-append files.images (flat_map (sample_files m.kind m.block m.bank) outs) in
+    omega (arith, image, samples, all)
 
--- the first pass of a sample stands behind the image
-pub first_at : (bank image : List ℕ) (outs : List SampleOut) (j : ℕ) (out : SampleOut) → slice_get outs j ≡ Some out → slice_get (bank_files bank image outs) (suc j) ≡ Some (first_file brr_codec bank out)
-first_at bank image outs j out e = slice_get-map (first_file brr_codec bank) outs j ∙ ap (option_map (first_file brr_codec bank)) e
+-- where they are stored, each is held under its name
+pub files_held : (before after : Files) (writes : List NamedFile) → IsDistinct bytes_eq (names_in writes) → all_stored (Some before) writes ≡ Some after → All (IsHeld (content_of after)) writes
+files_held before after writes once set = λ k d within. kept_at before after writes k (get_or writes k d) once (slice_get-get_or writes k d within) set
 
 -- a bound that holds, and stored files that replay a source, are what is promised of it
-pub stored_sample : (image first : List ℕ) (j : ℕ) (source : Source) (report : SampleReport) → ImageReplays brr_codec image first j source.rate source.fitted report.error → IsBound brr_codec source.fitted report.bound → IsStored image first j source report
-stored_sample image first j source report replays bound = record {
+pub stored_sample : (kind : Kind) (block : ℕ) (content : List ℕ → List ℕ) (bank : List ℕ) (j : ℕ) (source : Source) (report : SampleReport)
+    → SampleReplays kind block content bank source.name j source.rate source.fitted report.error → IsBound (codec_for kind block) source.fitted report.bound → IsStored kind block content bank j source report
+stored_sample kind block content bank j source report replays bound = record {
   replays = replays;
   bound = bound;
-  gap = subst (λ (n : ℕ). report.bound ≤ n) (sym replays.replays.error_is) (bound (blocks_in brr brr_format replays.entry.track.memory replays.entry.track.start source.fitted.blocks) replays.replays.legal);
-  optimal = λ e. subst (IsBound brr_codec source.fitted) (sym e) bound;
+  gap = subst (λ (n : ℕ). report.bound ≤ n) (sym replays.replays.error_is) (bound replays.entry.list replays.replays.legal);
+  optimal = λ e. subst (IsBound (codec_for kind block) source.fitted) (sym e) bound;
 }

@@ -41,9 +41,9 @@ block_answers o files input output a b r e h =
     answers_block files input output a b r (subst (λ (x : Option Command). Promises (course_of x files) (choice_of x files) a b r) e h)
 
 -- words that are `play`
-pub play_answers : (o : Option Command) (files : Files) (kind : Kind) (file : List ℕ) (entry count : ℕ) (a b : World) (r : Status) → o ≡ Some (Play kind file entry count) → Promises (course_of o files) (choice_of o files) a b r → AnswersPlay files file entry count a b r
+pub play_answers : (o : Option Command) (files : Files) (kind : Kind) (file : List ℕ) (entry count : ℕ) (a b : World) (r : Status) → o ≡ Some (Play kind file entry count) → Promises (course_of o files) (choice_of o files) a b r → AnswersPlay files kind file entry count a b r
 play_answers o files kind file entry count a b r e h =
-    answers_play files file entry count a b r (subst (λ (x : Option Command). Promises (course_of x files) (choice_of x files) a b r) e h)
+    answers_play files kind file entry count a b r (subst (λ (x : Option Command). Promises (course_of x files) (choice_of x files) a b r) e h)
 
 -- words that are `compile`
 pub compile_answers : (o : Option Command) (files : Files) (manifest : List ℕ) (a b : World) (r : Status) → a.files ≡ Some files → o ≡ Some (Compile manifest) → Promises (course_of o files) (choice_of o files) a b r → AnswersCompile files manifest a b r
@@ -58,10 +58,10 @@ block_obeys command files x y input output a b r is i o h =
     (subst (λ (n : List ℕ). Promises (block_course files n output) (IsBlock (targets_in files n) output) a b r) i h))
 
 -- a command that is `play`
-pub play_obeys : (command : Command) (files : Files) (kind : Kind) (x file : List ℕ) (entry count : ℕ) (a b : World) (r : Status) → command ≡ Play kind x entry count → file ≡ x → Promises (play_course files file entry count) (IsPlayed (said_in files file entry count)) a b r → Promises (course_of (Some command) files) (choice_of (Some command) files) a b r
+pub play_obeys : (command : Command) (files : Files) (kind : Kind) (x file : List ℕ) (entry count : ℕ) (a b : World) (r : Status) → command ≡ Play kind x entry count → file ≡ x → Promises (play_course files kind file entry count) (IsPlayed (said_in files kind file entry count)) a b r → Promises (course_of (Some command) files) (choice_of (Some command) files) a b r
 play_obeys command files kind x file entry count a b r is f h =
     subst (λ (m : Command). Promises (course_of (Some m) files) (choice_of (Some m) files) a b r) (sym is)
-    (subst (λ (n : List ℕ). Promises (play_course files n entry count) (IsPlayed (said_in files n entry count)) a b r) f h)
+    (subst (λ (n : List ℕ). Promises (play_course files kind n entry count) (IsPlayed (said_in files kind n entry count)) a b r) f h)
 
 -- a command that is `compile`
 pub compile_obeys : (command : Command) (files : Files) (x manifest : List ℕ) (a b : World) (r : Status) → command ≡ Compile x → manifest ≡ x → Promises (compile_course files manifest) (compile_choice files manifest) a b r → Promises (course_of (Some command) files) (choice_of (Some command) files) a b r

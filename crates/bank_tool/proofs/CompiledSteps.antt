@@ -40,7 +40,7 @@ bank_calls files m sources read e =
     let after = writing_course (bank_names m) in
     let fetched = each_fetched (λ (x : SampleEntry). x.file) (source_in files (rule_of m)) m.samples sources read in
     let all : length (bank_course files m).calls ≡ length (before.calls ++ writing_calls (bank_names m)) = ap (λ (c : Reading). length c.calls) (then_read-done before after (first_done before after e)) in
-    let count = counted (read_each (source_reading files (rule_of m)) m.samples) (status_of (sources_in files m >>= with_room m.bank m.base)) (map (λ (x : SampleEntry). Fetch x.file) m.samples) (bank_names m) fetched in
+    let count = counted (read_each (source_reading files (rule_of m)) m.samples) (status_of (sources_in files m >>= with_room m.kind m.bank m.base)) (map (λ (x : SampleEntry). Fetch x.file) m.samples) (bank_names m) fetched in
     all ∙ count ∙ grind (arith, common_steps)
 
 after_manifest : (manifest : List ℕ) (m : Content) (c : Reading) → length (then_read (tested_reading manifest (Ok m)) c).calls ≡ length c.calls + 1

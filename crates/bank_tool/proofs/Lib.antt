@@ -3,7 +3,6 @@ pub mod ZeroBlock
 pub mod BlockSteps
 pub mod NumberSteps
 pub mod PlaySteps
-pub mod PlayWordSteps
 pub mod CommandSteps
 pub mod SourceSteps
 pub mod BankSteps

@@ -1,8 +1,10 @@
 -- The readings of a manifest and of a source, over plain variables.
-use Rattle.std.proofs.Common.{◌≡◌, ℕ, ◌+◌, ◌≤◌, List, [], ◌∷◌, ◌++◌, length, take, Bool, true, false, cond, refl, sym, ap, subst, ◌∙◌, map, All, arith, ℤ, Option, Some, None, Result, Ok, Err, nat_lt, slice_get}
+use Rattle.std.proofs.Common.{◌≡◌, IsTrue, ℕ, ◌+◌, ◌≤◌, List, [], ◌∷◌, ◌++◌, length, take, Bool, true, false, cond, refl, sym, ap, subst, ◌∙◌, map, All, arith, ℤ, Option, Some, None, Result, Ok, Err, nat_lt, slice_get}
 use Rattle.std.specs.List.{AllZip}
 use Rattle.std.specs.Option.{IfSome}
+use Rattle.std.specs.Result.{IfOk}
 use Rattle.std.proofs.lemmas.Grind.{common_steps}
+use Rattle.std.proofs.lemmas.Bool.{and_from, eq-eqb, le-leb}
 use Rattle.adpcm_nums.specs.Outcome.{◌>>=◌}
 use Rattle.adpcm_nums.specs.Sample.{AreSamples}
 use Rattle.adpcm_nums.specs.declared.loop_at.LoopAt.{LoopAt}
@@ -13,7 +15,10 @@ use Rattle.loop_fit.specs.declared.rule.FitRule.{FitRule}
 use Rattle.loop_fit.specs.Source.{IsLoopIn, IsBlockOf, IsSource}
 use Rattle.loop_fit.specs.Fit.{fit_of}
 use Rattle.manifest_reader.specs.declared.manifest.SampleEntry.{SampleEntry}
-use Rattle.manifest_reader.specs.Meaning.{Content, manifest_of}
+use Rattle.manifest_reader.specs.Meaning.{manifest_of}
+use Rattle.manifest_reader.specs.Ranges.{IsWithin}
+use Rattle.ima_machine.specs.Ima.{is_align}
+use Rattle.bank_compile.specs.Kinds.{codec_for}
 use Rattle.wave_form.specs.declared.wave.Wave.{Wave}
 use Rattle.wave_form.specs.Reading.{read_of}
 use Rattle.smpl_loops.specs.Loops.{first_loop_of}
@@ -24,8 +29,10 @@ use Rattle.command_plan.specs.Ending.{Declined, ending_of}
 use Rattle.command_plan.specs.Reading.{Declines}
 use Rattle.command_plan.proofs.ReadEach.{map_more}
 use Rattle.command_plan.proofs.Fronts.{take-next}
+use Rattle.bank_tool.specs.declared.source.Source.{Source}
+use Rattle.bank_tool.specs.Ready.{IsReady, IsReadyBy}
 use Rattle.bank_tool.specs.Compile.{each_of}
-use Rattle.bank_tool.specs.Source.{front_in, or_told, if_brr, brr_alone, manifest_in, sound_in, loop_in, fit_in, source_of}
+use Rattle.bank_tool.specs.Source.{front_in, or_told, manifest_in, sound_in, loop_in, fit_in, source_of}
 
 -- a fault that is told is a refusal
 told-declines : {X E : Type 0} (tell : E → Status) (r : Result X E) → ((e : E) → ending_of (tell e) ≡ Declined) → Declines (or_told tell r)
@@ -42,16 +49,10 @@ pub test-declines : {X : Type 0} (b : Bool) (r q : Result X Status) → Declines
 test-declines true r q d k = d
 test-declines false r q d k = k
 
-brr-declines : (k : Kind) (m : Content) → Declines (if_brr k m)
-brr-declines Brr m = tt
-brr-declines Spu m = refl
-brr-declines Ima m = refl
-
 -- a manifest is refused or read
 pub manifest-declines : (own bytes : List ℕ) → Declines (manifest_in own bytes)
 unfolding manifest_in
-manifest-declines own bytes =
-    then-declines (or_told (λ f. Manifest f) (manifest_of bytes own)) brr_alone (told-declines (λ f. Manifest f) (manifest_of bytes own) (λ f. refl)) (λ m. brr-declines m.kind m)
+manifest-declines own bytes = told-declines (λ f. Manifest f) (manifest_of bytes own) (λ f. refl)
 
 sound-declines : (entry : SampleEntry) (bytes : List ℕ) → Declines (sound_in entry bytes)
 unfolding sound_in
@@ -75,13 +76,33 @@ source-declines rule entry bytes =
     (λ wave. then-declines (loop_in entry wave) _ (loop-declines entry wave)
     (λ at. then-declines (fit_in rule entry wave at) _ (fit-declines rule entry wave at) (λ fitted. tt)))
 
--- a sound that was read can be fitted to blocks of BRR
-pub is_source : (held samples : List ℤ) (at : Option LoopAt) (rule : FitRule) → samples ≡ held → length held ≤ 4194304 → AreSamples held → IfSome at (IsLoopIn (length held)) → rule.kind ≡ Brr → rule.block ≡ 16 → IsSource samples at rule
-is_source held samples at rule same count range inside kind block = subst (λ (xs : List ℤ). IsSource xs at rule) (sym same) (record {
+-- blocks of a kind have the samples of its codec
+pub block_of : (kind : Kind) (block samples : ℕ) → IsWithin 8 1024 4 block → samples ≡ (codec_for kind block).rules.decoder.samples → IsBlockOf kind samples
+block_of Brr block samples within is = is
+block_of Spu block samples within is = is
+block_of Ima block samples within is = (block, record { words = within.multiple; at_least = within.least; at_most = within.most; samples_are = is })
+
+-- the sizes of blocks that a manifest may say are those of IMA ADPCM
+pub align_is : (block : ℕ) → IsWithin 8 1024 4 block → IsTrue (is_align block)
+align_is block within = and_from _ _ (eq-eqb _ _ within.multiple) (and_from _ _ (le-leb 8 block within.least) (le-leb block 1024 within.most))
+
+-- sources that a rule has fitted can be compiled to blocks of so many bytes as have its samples
+pub ready_all : (rule : FitRule) (block : ℕ) (sources : List Source) → rule.block ≡ (codec_for rule.kind block).rules.decoder.samples → All (IsReadyBy rule) sources → All (IsReady rule.kind block) sources
+ready_all rule block sources size all = λ k d within. all k d within block size
+
+-- also where they are handed on
+pub ready_kept : {V : Type 0} (items : V → List Source) (v : V) (r : Result V Status) (kind : Kind) (block : ℕ) → All (IsReady kind block) (items v) → IfOk r (λ w. w ≡ v) → IfOk r (λ w. All (IsReady kind block) (items w))
+ready_kept items v (Ok w) kind block all same = subst (λ u. All (IsReady kind block) (items u)) (sym same) all
+ready_kept items v (Err s) kind block all same = tt
+
+-- a sound that was read can be fitted to blocks of a kind
+pub is_source : (held samples : List ℤ) (at : Option LoopAt) (rule : FitRule) → samples ≡ held → length held ≤ 4194304 → AreSamples held → IfSome at (IsLoopIn (length held))
+    → IsBlockOf rule.kind rule.block → IsSource samples at rule
+is_source held samples at rule same count range inside block = subst (λ (xs : List ℤ). IsSource xs at rule) (sym same) (record {
   count = omega arith;
   range = range;
   loop = inside;
-  block = subst (λ (k : Kind). IsBlockOf k rule.block) (sym kind) block;
+  block = block;
 })
 
 -- values that were read one by one

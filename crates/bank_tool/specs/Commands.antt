@@ -15,11 +15,11 @@ abbrev pub course_of : Option Command → Files → Reading
 course_of None files = decided Words
 course_of (Some (Block input output)) files = block_course files input output
 course_of (Some (Compile manifest)) files = compile_course files manifest
-course_of (Some (Play kind file entry count)) files = play_course files file entry count
+course_of (Some (Play kind file entry count)) files = play_course files kind file entry count
 
 -- the files that may be stored, and the line that may be said
 abbrev pub choice_of : Option Command → Files → Choice
 choice_of None files = λ writes line. ⊥
 choice_of (Some (Block input output)) files = IsBlock (targets_in files input) output
 choice_of (Some (Compile manifest)) files = compile_choice files manifest
-choice_of (Some (Play kind file entry count)) files = IsPlayed (said_in files file entry count)
+choice_of (Some (Play kind file entry count)) files = IsPlayed (said_in files kind file entry count)

@@ -5,16 +5,18 @@ use Rattle.std.specs.Str.{bytes_eq}
 use Rattle.adpcm_nums.specs.Outcome.{◌>>=◌}
 use Rattle.host_files.specs.Outside.{Files, content_of}
 use Rattle.host_files.specs.declared.named_file.NamedFile.{NamedFile}
+use Rattle.machine_core.specs.declared.state.Kind.{Kind}
+use Rattle.machine_core.specs.declared.state.Kind.TheVariants.{Brr, Spu, Ima}
 use Rattle.loop_fit.specs.declared.rule.FitRule.{FitRule}
 use Rattle.manifest_reader.specs.declared.manifest.SampleEntry.{SampleEntry}
 use Rattle.manifest_reader.specs.Meaning.{Content}
-use Rattle.manifest_reader.specs.Stored.{first_pass_of, stored_names}
+use Rattle.manifest_reader.specs.Stored.{stored_names}
 use Rattle.snes_directory.specs.Layout.{end_address, is_past_end}
-use Rattle.bank_compile.specs.Kinds.{brr_codec}
+use Rattle.bank_compile.specs.Kinds.{codec_for}
 use Rattle.bank_compile.specs.declared.sample.SampleOut.{SampleOut}
 use Rattle.bank_compile.specs.Sample.{IsCompiled}
 use Rattle.bank_compile.specs.Bank.{bank_of}
-use Rattle.bank_compile.specs.Told.{file_count, report_text}
+use Rattle.bank_compile.specs.Told.{report_text}
 use Rattle.command_plan.specs.declared.status.Status.{Status}
 use Rattle.command_plan.specs.declared.status.Status.TheVariants.{Full}
 use Rattle.command_plan.specs.Plan.{names_in, all_stored}
@@ -48,18 +50,20 @@ source_reading files rule entry = tested_reading entry.file (source_in files rul
 abbrev pub sources_in : Files → Content → Result (List Source) Status
 sources_in files m = each_of (source_in files (rule_of m)) m.samples
 
--- the address behind the last sample
+-- the address behind the last sample of an image
 abbrev pub bank_end : ℕ → List Source → ℕ
 bank_end base sources = end_address base (length sources) (sum_by (λ s. s.fitted.blocks) sources)
 
--- the samples that fit into sound memory
-unfoldable pub with_room : List ℕ → ℕ → List Source → Result (List Source) Status
-with_room bank base sources = if is_past_end (bank_end base sources) then Err (Full bank (bank_end base sources)) else Ok sources
+-- the samples, where those of an image fit into sound memory
+unfoldable pub with_room : Kind → List ℕ → ℕ → List Source → Result (List Source) Status
+with_room Brr bank base sources = if is_past_end (bank_end base sources) then Err (Full bank (bank_end base sources)) else Ok sources
+with_room Spu bank base sources = Ok sources
+with_room Ima bank base sources = Ok sources
 
--- the files of the samples are fetched in order, and then there must be room for their blocks
+-- the files of the samples are fetched in order, and then there must be room for them
 abbrev pub sources_reading : Files → Content → Reading
 sources_reading files m =
-    then_read (read_each (source_reading files (rule_of m)) m.samples) (decided (status_of (sources_in files m >>= with_room m.bank m.base)))
+    then_read (read_each (source_reading files (rule_of m)) m.samples) (decided (status_of (sources_in files m >>= with_room m.kind m.bank m.base)))
 
 -- the names that are stored
 abbrev pub bank_names : Content → List (List ℕ)
@@ -79,28 +83,27 @@ abbrev pub compile_course : Files → List ℕ → Reading
 compile_course files manifest = then_read (tested_reading manifest (meaning_in files manifest)) (course_by files (meaning_in files manifest))
 
 -- a source with what was made of it
-abbrev pub IsMadeOf : Source → SampleOut → Type 0
-IsMadeOf source out = IsCompiled brr_codec source.name source.rate source.fitted out
+abbrev pub IsMadeOf : Kind → ℕ → Source → SampleOut → Type 0
+IsMadeOf kind block source out = IsCompiled (codec_for kind block) source.name source.rate source.fitted out
 
 -- under their names the files hold what the report says of each source
-abbrev pub AllStored : List ℕ → List Source → List SampleOut → Files → Type 0
-AllStored bank sources outs files = (j : ℕ) (source : Source) (out : SampleOut) → slice_get sources j ≡ Some source → slice_get outs j ≡ Some out
-    → IsStored (content_of files bank) (content_of files (first_pass_of bank source.name)) j source out.report
+abbrev pub AllStored : Kind → ℕ → List ℕ → List Source → List SampleOut → Files → Type 0
+AllStored kind block bank sources outs files = (j : ℕ) (source : Source) (out : SampleOut) → slice_get sources j ≡ Some source → slice_get outs j ≡ Some out
+    → IsStored kind block (content_of files) bank j source out.report
 
 -- what is stored and said for these sources: some blocks are chosen for each, and all else is made of them
 pub record IsBank (m : Content) (sources : List Source) (writes : List NamedFile) (line : List ℕ) : Type 0 where
   -- what was made of each source
   pub outs : List SampleOut
-  pub made : AllZip IsMadeOf sources outs
-  pub files : bank_of m.bank m.base outs ≡ Ok writes
+  pub made : AllZip (IsMadeOf m.kind m.block) sources outs
+  pub files : bank_of m.kind m.block m.bank m.base outs ≡ Ok writes
   -- they have the names of a bank's files, of which no two are equal
   pub names : names_in writes ≡ bank_names m
   pub once : IsDistinct bytes_eq (names_in writes)
   -- the report tells of each sample, and how many files there are
-  pub told : line ≡ report_text outs
-  pub count : file_count (length outs) ≡ length writes
+  pub told : line ≡ report_text outs (length writes)
   -- whatever was stored before, each sample is then stored and told as promised
-  pub stored : (before after : Files) → all_stored (Some before) writes ≡ Some after → AllStored m.bank sources outs after
+  pub stored : (before after : Files) → all_stored (Some before) writes ≡ Some after → AllStored m.kind m.block m.bank sources outs after
 
 -- what may be stored and said for a manifest that was read
 abbrev pub bank_choice : Files → Content → Choice

@@ -1,33 +1,49 @@
--- The command `play`: the first outputs of an entry of an image file.
-use Rattle.std.specs.Prelude.{Bool, false, ◌≡◌, ℕ, zero, suc, ◌+◌, ◌==◌, nat_lt, if◌then◌else◌, ℤ, List, [], ◌++◌, length, take, get_or, codes, Option, Some, None, Result, Ok, Err}
+-- The command `play`: the first outputs of an entry of an image, a VAG file or a WAVE file of IMA ADPCM.
+use Rattle.std.specs.Prelude.{Bool, false, ◌≡◌, ℕ, zero, suc, ◌+◌, ◌*◌, ◌==◌, ◌||◌, nat_lt, if◌then◌else◌, ℤ, List, [], ◌++◌, length, take, get_or, codes, Option, Some, None, Result, Ok, Err}
 use Rattle.std.specs.Fmt.{signed_decimal}
 use Rattle.adpcm_nums.specs.First.{first_where}
 use Rattle.adpcm_nums.specs.Outcome.{Tells, ◌>>=◌}
 use Rattle.host_files.specs.Outside.{World, Files, content_of, grown, raised}
 use Rattle.host_files.specs.declared.named_file.NamedFile.{NamedFile}
+use Rattle.machine_core.specs.declared.state.Kind.{Kind}
+use Rattle.machine_core.specs.declared.state.Kind.TheVariants.{Brr, Spu, Ima}
 use Rattle.player_model.specs.declared.fault.TrackFault.{TrackFault}
 use Rattle.player_model.specs.Track.{Track}
 use Rattle.player_model.specs.BrrTrack.{track_of}
 use Rattle.brr_machine.specs.Brr.{brr}
+use Rattle.spu_machine.specs.Spu.{spu}
 use Rattle.player_model.specs.BrrFormat.{brr_format}
+use Rattle.player_model.specs.SpuFormat.{spu_format}
+use Rattle.player_model.specs.SpuTrack.{spu_track_of}
 use Rattle.player_model.specs.Sound.{heard}
-use Rattle.snes_directory.specs.declared.fault.ImageFault.{ImageFault}
+use Rattle.player_model.specs.ImaTrack.{ImaSound, blocks_of, heard_ima, ima_track_of}
+use Rattle.ima_machine.specs.Ima.{samples_in}
+use Rattle.ima_wave.specs.declared.file.ImaFile.{ImaFile}
+use Rattle.ima_wave.specs.Reading.{ima_of}
+use Rattle.bank_compile.specs.Replay.{sound_of}
+use Rattle.vag_writer.specs.declared.vag.Vag.{Vag}
+use Rattle.vag_writer.specs.Reading.{vag_of}
 use Rattle.snes_directory.specs.declared.image.Image.{Image}
 use Rattle.snes_directory.specs.Reading.{image_of}
 use Rattle.command_plan.specs.declared.status.Status.{Status}
 use Rattle.command_plan.specs.declared.status.Status.TheVariants.{Done, Input, Memory}
-use Rattle.command_plan.specs.declared.input_fault.InputFault.TheVariants.{FileLong, NoEntry, TooMuch, Image as OfImage, Track as OfTrack}
+use Rattle.command_plan.specs.declared.input_fault.InputFault.{InputFault}
+use Rattle.command_plan.specs.declared.input_fault.InputFault.TheVariants.{FileLong, NoEntry, TooMuch, Image as OfImage, Vag as OfVag, Ima as OfIma, Track as OfTrack}
 use Rattle.command_plan.specs.Ending.{is_device}
 use Rattle.command_plan.specs.Reading.{Reading, nothing_read, then_read, writing_course, status_of, tested_reading}
 
--- an image that was read, or its fault under the file's name
-abbrev pub image_status : List ℕ → Result Image ImageFault → Result Image Status
-image_status file (Ok image) = Ok image
-image_status file (Err fault) = Err (Input file (OfImage fault))
+-- a file that may have 8,388,608 bytes
+unfoldable pub whole_in : List ℕ → List ℕ → Result (List ℕ) Status
+whole_in file front = if nat_lt 8388608 (length front) then Err (Input file (FileLong 8388608)) else Ok front
 
--- the image in a file of at most 8,388,608 bytes
+-- what was read of a file, or its fault under the file's name
+abbrev pub or_refused : {X E : Type 0} → List ℕ → (E → InputFault) → Result X E → Result X Status
+or_refused file fault (Ok x) = Ok x
+or_refused file fault (Err e) = Err (Input file (fault e))
+
+-- the image that a file is
 unfoldable pub image_in : List ℕ → List ℕ → Result Image Status
-image_in file front = if nat_lt 8388608 (length front) then Err (Input file (FileLong 8388608)) else image_status file (image_of front)
+image_in file bytes = or_refused file (λ f. OfImage f) (image_of bytes)
 
 -- the track of an entry; there is one for each entry of an image that was read
 abbrev pub track_at : Image → ℕ → Result Track TrackFault
@@ -42,57 +58,114 @@ blocks_in (Err fault) = 0
 abbrev pub is_long : Image → ℕ → Bool
 is_long image i = nat_lt 4096 (blocks_in (track_at image i))
 
--- a track, or its fault under the file's name
-abbrev pub track_status : List ℕ → Result Track TrackFault → Result Track Status
-track_status file (Ok track) = Ok track
-track_status file (Err fault) = Err (Input file (OfTrack fault))
-
 -- the track that was asked for, unless an entry is too long, of which the first is told
 abbrev pub track_unless : List ℕ → Image → ℕ → Option ℕ → Result Track Status
 track_unless file image entry (Some i) = Err (Input file (TooMuch (blocks_in (track_at image i))))
 track_unless file image entry None =
-    if nat_lt entry (length image.starts) then track_status file (track_at image entry)
+    if nat_lt entry (length image.starts) then or_refused file (λ f. OfTrack f) (track_at image entry)
     else Err (Input file (NoEntry entry (length image.starts)))
 
 -- the track of the entry that was asked for, or the first fault
 unfoldable pub track_in : List ℕ → Image → ℕ → Result Track Status
 track_in file image entry = track_unless file image entry (first_where (is_long image) (length image.starts))
 
+-- the VAG file that a file is
+unfoldable pub vag_in : List ℕ → List ℕ → Result Vag Status
+vag_in file bytes = or_refused file (λ f. OfVag f) (vag_of bytes)
+
+-- the one entry of a VAG file, unless it has more than 4,096 blocks
+abbrev pub only_track : List ℕ → Track → ℕ → Result Track Status
+only_track file track entry =
+    if nat_lt 4096 track.blocks then Err (Input file (TooMuch track.blocks))
+    else (if nat_lt entry 1 then Ok track else Err (Input file (NoEntry entry 1)))
+
+-- the track of the entry that was asked for, or the first fault
+unfoldable pub vag_track_in : List ℕ → Vag → ℕ → Result Track Status
+vag_track_in file vag entry = do
+  track ← or_refused file (λ f. OfTrack f) (spu_track_of vag.blocks)
+  only_track file track entry
+
+-- the WAVE file of IMA ADPCM that a file is
+unfoldable pub ima_in : List ℕ → List ℕ → Result ImaFile Status
+ima_in file bytes = or_refused file (λ f. OfIma f) (ima_of bytes)
+
+-- more than 4,096 blocks or 262,144 samples are not played
+abbrev pub is_much : ℕ → ℕ → Bool
+is_much blocks samples = nat_lt 4096 blocks || nat_lt 262144 (blocks * samples)
+
+-- the one entry of such a file, unless it has too many blocks or samples in them
+abbrev pub only_sound : List ℕ → ℕ → ImaSound → ℕ → Result ImaSound Status
+only_sound file samples sound entry =
+    if is_much (blocks_of sound) samples then Err (Input file (TooMuch (blocks_of sound)))
+    else (if nat_lt entry 1 then Ok sound else Err (Input file (NoEntry entry 1)))
+
+-- the track of the entry that was asked for, or the first fault
+unfoldable pub ima_track_in : List ℕ → ImaFile → ℕ → Result ImaSound Status
+ima_track_in file said entry = do
+  track ← or_refused file (λ f. OfTrack f) (ima_track_of (sound_of said))
+  only_sound file (samples_in said.align) track entry
+
 -- an output, and the end of its line
 abbrev pub output_line : ℤ → List ℕ
 output_line output = signed_decimal output ++ codes "\n"
 
--- the first outputs of the player of a track, one in a line
-unfoldable pub play_lines : Track → ℕ → List ℕ
-play_lines track zero = []
-play_lines track (suc n) = play_lines track n ++ output_line (heard brr brr_format track n)
+-- the first of these outputs, one in a line
+unfoldable pub play_lines : (ℕ → ℤ) → ℕ → List ℕ
+play_lines output zero = []
+play_lines output (suc n) = play_lines output n ++ output_line (output n)
+
+-- the first outputs of an entry of an image, or the first fault
+unfoldable pub image_said : List ℕ → ℕ → ℕ → List ℕ → Result (List ℕ) Status
+image_said file entry count bytes = do
+  image ← image_in file bytes
+  track ← track_in file image entry
+  Ok (play_lines (heard brr brr_format track) count)
+
+-- the same of a VAG file
+unfoldable pub vag_said : List ℕ → ℕ → ℕ → List ℕ → Result (List ℕ) Status
+vag_said file entry count bytes = do
+  vag ← vag_in file bytes
+  track ← vag_track_in file vag entry
+  Ok (play_lines (heard spu spu_format track) count)
+
+-- the same of a WAVE file of IMA ADPCM
+unfoldable pub ima_said : List ℕ → ℕ → ℕ → List ℕ → Result (List ℕ) Status
+ima_said file entry count bytes = do
+  said ← ima_in file bytes
+  track ← ima_track_in file said entry
+  Ok (play_lines (heard_ima track) count)
+
+-- the file that is read, by its format
+abbrev pub said_by : Kind → List ℕ → ℕ → ℕ → List ℕ → Result (List ℕ) Status
+said_by Brr file entry count bytes = image_said file entry count bytes
+said_by Spu file entry count bytes = vag_said file entry count bytes
+said_by Ima file entry count bytes = ima_said file entry count bytes
 
 -- what the front of a file says of an entry: its first outputs, or the first fault
-unfoldable pub said_of : List ℕ → ℕ → ℕ → List ℕ → Result (List ℕ) Status
-said_of file entry count front = do
-  image ← image_in file front
-  track ← track_in file image entry
-  Ok (play_lines track count)
+unfoldable pub said_of : Kind → List ℕ → ℕ → ℕ → List ℕ → Result (List ℕ) Status
+said_of kind file entry count front = do
+  bytes ← whole_in file front
+  said_by kind file entry count bytes
 
 -- the front that is fetched: one byte more than a file may have
 unfoldable pub front_of : Files → List ℕ → List ℕ
 front_of files file = take (8388608 + 1) (content_of files file)
 
 -- what a file says of an entry
-abbrev pub said_in : Files → List ℕ → ℕ → ℕ → Result (List ℕ) Status
-said_in files file entry count = said_of file entry count (front_of files file)
+abbrev pub said_in : Files → Kind → List ℕ → ℕ → ℕ → Result (List ℕ) Status
+said_in files kind file entry count = said_of kind file entry count (front_of files file)
 
 -- the file's front is fetched, and what it says decides
-abbrev pub play_reading : Files → List ℕ → ℕ → ℕ → Reading
-play_reading files file entry count = tested_reading file (said_in files file entry count)
+abbrev pub play_reading : Files → Kind → List ℕ → ℕ → ℕ → Reading
+play_reading files kind file entry count = tested_reading file (said_in files kind file entry count)
 
 -- no outputs are said in no call
 abbrev pub saying : ℕ → Reading
 saying count = if count == 0 then nothing_read else writing_course []
 
 -- the file is read, and then the outputs are said
-abbrev pub play_course : Files → List ℕ → ℕ → ℕ → Reading
-play_course files file entry count = then_read (play_reading files file entry count) (saying count)
+abbrev pub play_course : Files → Kind → List ℕ → ℕ → ℕ → Reading
+play_course files kind file entry count = then_read (play_reading files kind file entry count) (saying count)
 
 -- nothing is stored, and the outputs are said
 pub record IsPlayed (said : Result (List ℕ) Status) (writes : List NamedFile) (line : List ℕ) : Type 0 where
@@ -100,18 +173,18 @@ pub record IsPlayed (said : Result (List ℕ) Status) (writes : List NamedFile) 
   pub told : said ≡ Ok line
 
 -- what `play` has done where it ends well; `held` are the files before
-pub record HasPlayed (held : Files) (file : List ℕ) (entry count : ℕ) (a b : World) : Type 0 where
+pub record HasPlayed (held : Files) (kind : Kind) (file : List ℕ) (entry count : ℕ) (a b : World) : Type 0 where
   pub lines : List ℕ
-  pub told : said_in held file entry count ≡ Ok lines
+  pub told : said_in held kind file entry count ≡ Ok lines
   pub files : b.files ≡ a.files
   pub said : b.said ≡ grown a.said lines
   -- the file was fetched, and the outputs, if any, were said in one call
   pub calls : b.calls ≡ raised (if count == 0 then 1 else 2) a.calls
 
 -- what `play` answers, in its own words: r is the answer, from a to b
-pub record AnswersPlay (held : Files) (file : List ℕ) (entry count : ℕ) (a b : World) (r : Status) : Type 0 where
+pub record AnswersPlay (held : Files) (kind : Kind) (file : List ℕ) (entry count : ℕ) (a b : World) (r : Status) : Type 0 where
   -- whatever happens, the files are as they were
   pub files : b.files ≡ a.files
-  pub done : r ≡ Done → HasPlayed held file entry count a b
+  pub done : r ≡ Done → HasPlayed held kind file entry count a b
   -- where the host does not fail, what the file says decides, unless there was no memory
-  pub outcome : is_device r ≡ false → Tells Memory r (status_of (said_in held file entry count))
+  pub outcome : is_device r ≡ false → Tells Memory r (status_of (said_in held kind file entry count))

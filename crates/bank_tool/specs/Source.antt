@@ -1,11 +1,8 @@
 -- What a manifest says, and what the file of one of its samples says: the first fault of each as the status that tells it.
-use Rattle.std.specs.Prelude.{ℕ, nat_lt, if◌then◌else◌, ◌+◌, List, length, take, Option, None, Result, Ok, Err, codes}
+use Rattle.std.specs.Prelude.{ℕ, nat_lt, if◌then◌else◌, ◌+◌, List, length, take, Option, None, Result, Ok, Err}
 use Rattle.adpcm_nums.specs.Outcome.{◌>>=◌}
 use Rattle.adpcm_nums.specs.declared.loop_at.LoopAt.{LoopAt}
 use Rattle.host_files.specs.Outside.{Files, content_of}
-use Rattle.machine_core.specs.declared.state.Kind.{Kind}
-use Rattle.machine_core.specs.declared.state.Kind.TheVariants.{Brr, Spu, Ima}
-use Rattle.manifest_reader.specs.declared.fault.ManifestFault.TheVariants.{BadWord}
 use Rattle.manifest_reader.specs.declared.manifest.SampleEntry.{SampleEntry}
 use Rattle.manifest_reader.specs.Meaning.{Content, manifest_of}
 use Rattle.wave_form.specs.declared.wave.Wave.{Wave}
@@ -14,6 +11,7 @@ use Rattle.smpl_loops.specs.Loops.{first_loop_of}
 use Rattle.loop_fit.specs.declared.rule.FitRule.{FitRule}
 use Rattle.loop_fit.specs.declared.fitted.Fitted.{Fitted}
 use Rattle.loop_fit.specs.Fit.{fit_of}
+use Rattle.bank_compile.specs.Kinds.{codec_for}
 use Rattle.command_plan.specs.declared.status.Status.{Status}
 use Rattle.command_plan.specs.declared.status.Status.TheVariants.{Manifest, Input, Unfit}
 use Rattle.command_plan.specs.declared.input_fault.InputFault.TheVariants.{Wave as WaveInput, Loop, FileLong}
@@ -28,23 +26,13 @@ abbrev pub or_told : {X E : Type 0} → (E → Status) → Result X E → Result
 or_told tell (Ok x) = Ok x
 or_told tell (Err e) = Err (tell e)
 
--- so far banks of BRR alone are compiled, and another format is a word that may not stand at its key
-abbrev pub if_brr : {X : Type 0} → Kind → X → Result X Status
-if_brr Brr x = Ok x
-if_brr Spu x = Err (Manifest (BadWord (codes "format")))
-if_brr Ima x = Err (Manifest (BadWord (codes "format")))
-
--- the content of a manifest, where its format is BRR
-abbrev pub brr_alone : Content → Result Content Status
-brr_alone m = if_brr m.kind m
-
 -- the manifest of this name that bytes spell
 unfoldable pub manifest_in : List ℕ → List ℕ → Result Content Status
-manifest_in own bytes = or_told (λ f. Manifest f) (manifest_of bytes own) >>= brr_alone
+manifest_in own bytes = or_told (λ f. Manifest f) (manifest_of bytes own)
 
--- how the sounds of a bank of BRR are fitted
+-- how the sounds of a bank are fitted
 abbrev pub rule_of : Content → FitRule
-rule_of m = record { kind = m.kind; block = 16; length = m.length; start = m.start }
+rule_of m = record { kind = m.kind; block = (codec_for m.kind m.block).rules.decoder.samples; length = m.length; start = m.start }
 
 -- the sound of a sample's file, which may have 4,194,304 bytes
 unfoldable pub sound_in : SampleEntry → List ℕ → Result Wave Status

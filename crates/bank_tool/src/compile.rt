@@ -1,6 +1,5 @@
 ghost use Rattle.std.specs.Prelude.{◌≡◌, Some};
 ghost use Rattle.host_files.specs.Outside.{Files};
-ghost use Rattle.machine_core.specs.declared.state.Kind.TheVariants.{Brr};
 ghost use Rattle.manifest_reader.specs.Meaning.{content_of};
 ghost use Rattle.manifest_reader.specs.Ranges.{InRanges, StoresOnce};
 ghost use Rattle.command_plan.specs.Promise.{Reaches, Promises};
@@ -17,10 +16,10 @@ use host_files::Host;
 use manifest_reader::Manifest;
 use std::alloc::Global;
 
-/// The command `compile MANIFEST`: fetches the manifest and the WAVE files that it names, encodes them, stores the image
-/// under the bank's name and the first pass of each sample, and says the report.
+/// The command `compile MANIFEST`: fetches the manifest and the WAVE files that it names, encodes them, stores the files of
+/// the bank, which `compile_bank` names, and says the report.
 ///
-/// So far it compiles banks of BRR alone, and stores no certificates. A refused run stores nothing.
+/// So far it stores no certificates. A refused run stores nothing.
 pub fn run_compile<H: Host>(alloc: Global, host: &mut H, manifest: &str) -> Status
     // How the world stands, whatever the host did.
     ensures told { (files : Files) → (H.world host.old).files ≡ Some files →
@@ -52,7 +51,6 @@ fn come_compile<H: Host>(alloc: Global, host: &mut H, name: &str) -> Status
 fn come_bank<H: Host>(alloc: Global, host: &mut H, manifest: &Manifest) -> Status
     requires ranges { InRanges (content_of manifest.now) }
     requires once { StoresOnce manifest.now.kind manifest.now.bank manifest.now.samples.items }
-    requires kind { manifest.now.kind ≡ Brr }
     ensures keeps { Keeps (H.world host.old) (H.world host.new) result }
     ensures told { (files : Files) → (H.world host.old).files ≡ Some files →
         Reaches (bank_course files (content_of manifest.now)) (bank_choice files (content_of manifest.now)) (H.world host.old) (H.world host.new) result }

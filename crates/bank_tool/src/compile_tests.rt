@@ -1,5 +1,5 @@
 use super::{Status, run, run_compile};
-use crate::test_files::{constant, image, push_number, spaced, wave};
+use crate::test_files::{IMA, constant, image, pulses, push_number, spaced, vag, wave};
 use crate::test_words::words;
 use host_files::{Host, MemoryHost, SteadyHost};
 use std::alloc::Global;
@@ -7,6 +7,13 @@ use std::test::Fail;
 
 /// A bank `b` of one sample `s`, whose file is `s.wav`.
 const ONE: &str = "format = 'brr'\nbank = 'b'\n[[sample]]\nname = 's'\nfile = 's.wav'\n";
+
+/// The same as VAG files.
+const VAGS: &str = "format = 'spu'\nbank = 'b'\n[[sample]]\nname = 's'\nfile = 's.wav'\n";
+
+/// The same as WAVE files of IMA ADPCM with blocks of 8 bytes.
+const IMAS: &str =
+    "format = 'ima'\nbank = 'b'\nblock = 8\n[[sample]]\nname = 's'\nfile = 's.wav'\n";
 
 /// A bank at address 1,024 of two samples, of which the second is not to repeat.
 const TWO: &str =
@@ -31,63 +38,41 @@ fn code_of<H: Host>(alloc: Global, host: &mut H, manifest: &str) -> Result<u8, F
 }
 
 #[test]
-fn makes_banks(rt: HostRuntime) -> Result<(), Fail> {
+fn makes_a_bank_that_repeats(rt: HostRuntime) -> Result<(), Fail> {
     let alloc = rt.alloc();
-    let rows: [(&[i16], Option<(u32, u32)>, &[i16], u8, &[u8], &str); 4] = [
-        (
-            &[0; 16],
-            Some((0, 15)),
-            &[0; 16],
-            0x04,
-            &[3, 0, 0, 0, 0, 0, 0, 0, 0],
-            "sample s blocks 1 loop 0 error 0 bound 0 gap 0 levels 0 0 0 1 optimal\ndone 1 samples 2 files\n",
-        ),
-        (
-            &[0; 48],
-            Some((16, 47)),
-            &[0; 48],
-            0x0D,
-            &[
-                0, 0, 0, 0, 0, 0, 0, 0, 0, 0, 0, 0, 0, 0, 0, 0, 0, 0, 3, 0, 0, 0, 0, 0, 0, 0, 0,
-            ],
-            "sample s blocks 3 loop 1 error 0 bound 0 gap 0 levels 0 0 0 2 optimal\ndone 1 samples 2 files\n",
-        ),
-        (
-            &[1; 16],
-            None,
-            &[0; 16],
-            0x04,
-            &[1, 0, 0, 0, 0, 0, 0, 0, 0],
-            "sample s blocks 1 loop none error 16 bound 16 gap 0 levels 0 0 0 1 optimal\ndone 1 samples 2 files\n",
-        ),
-        // The floor of shift 11 and filter 1 is 0, which no block reaches.
-        (
-            &[
-                0, 0, 0, 0, 0, 0, 0, 0, 0, 0, 0, 0, 0, 0, 0, 0, 2, 6144, 2, 6144, 2, 6144, 2, 6144,
-                2, 6144, 2, 6144, 2, 6144, 2, 6144,
-            ],
-            None,
-            &[
-                0, 0, 0, 0, 0, 0, 0, 0, 0, 0, 0, 0, 0, 0, 0, 0, 0, 6144, 0, 6144, 0, 6144, 0, 6144,
-                0, 6144, 0, 6144, 0, 6144, 0, 6144,
-            ],
-            0x04,
-            &[0, 0, 0, 0, 0, 0, 0, 0, 0, 0xA1, 6, 6, 6, 6, 6, 6, 6, 6],
-            "sample s blocks 2 loop none error 32 bound 0 gap 32 levels 0 0 0 1\ndone 1 samples 2 files\n",
-        ),
-    ];
-    for (samples, at, first, again, blocks, lines) in rows {
-        let source = wave(alloc, samples, at)?;
-        let mut host = host_with(alloc, ONE.as_bytes(), source.as_slice())?;
-        assert_eq!(rt; code_of(alloc, &mut host, "m.toml")?, 0);
-        assert_eq!(rt; host.said(), lines.as_bytes());
-        assert_eq!(rt;
-            host.file("b").ok_or("no image")?,
-            image(alloc, again, blocks)?.as_slice()
-        );
-        let pass = host.file("b.s.first.wav").ok_or("no first pass")?;
-        assert_eq!(rt; pass, wave(alloc, first, at)?.as_slice());
-    }
+    let source = wave(alloc, &[0; 16], Some((0, 15)))?;
+    let mut host = host_with(alloc, ONE.as_bytes(), source.as_slice())?;
+    assert_eq!(rt; code_of(alloc, &mut host, "m.toml")?, 0);
+    assert_eq!(rt;
+        host.said(),
+        "sample s blocks 1 loop 0 error 0 bound 0 gap 0 levels 0 0 0 1 optimal\ndone 1 samples 2 files\n".as_bytes()
+    );
+    let bank = host.file("b").ok_or("no image")?;
+    assert_eq!(rt;
+        bank,
+        image(alloc, 0x04, b"\x03\0\0\0\0\0\0\0\0")?.as_slice()
+    );
+    let pass = host.file("b.s.first.wav").ok_or("no first pass")?;
+    assert_eq!(rt; pass, source.as_slice());
+    Ok(())
+}
+
+// The floor of shift 11 and filter 1 is 0, which no block reaches.
+#[test]
+fn tells_a_gap(rt: HostRuntime) -> Result<(), Fail> {
+    let alloc = rt.alloc();
+    let source = pulses(alloc, 2)?;
+    let mut host = host_with(alloc, ONE.as_bytes(), source.as_slice())?;
+    assert_eq!(rt; code_of(alloc, &mut host, "m.toml")?, 0);
+    assert_eq!(rt;
+        host.said(),
+        "sample s blocks 2 loop none error 32 bound 0 gap 32 levels 0 0 0 1\ndone 1 samples 2 files\n".as_bytes()
+    );
+    let bank = host.file("b").ok_or("no image")?;
+    let blocks = b"\0\0\0\0\0\0\0\0\0\xA1\x06\x06\x06\x06\x06\x06\x06\x06";
+    assert_eq!(rt; bank, image(alloc, 0x04, blocks)?.as_slice());
+    let pass = host.file("b.s.first.wav").ok_or("no first pass")?;
+    assert_eq!(rt; pass, pulses(alloc, 0)?.as_slice());
     Ok(())
 }
 
@@ -115,23 +100,52 @@ fn makes_a_bank_of_two_samples(rt: HostRuntime) -> Result<(), Fail> {
 }
 
 #[test]
-fn sums_over_long_sounds(rt: HostRuntime) -> Result<(), Fail> {
+fn makes_vag_files(rt: HostRuntime) -> Result<(), Fail> {
     let alloc = rt.alloc();
-    for (value, lines) in [
+    let rows: [(i16, i16, &[u8], &str); 2] = [
         (
             0,
-            "sample s blocks 65 loop none error 0 bound 0 gap 0 levels 0 0 0 1 optimal\ndone 1 samples 2 files\n",
+            0,
+            b"\0\x01\0\0\0\0\0\0\0\0\0\0\0\0\0\0",
+            "sample s blocks 1 loop none error 0 bound 0 gap 0 levels 0 0 0 1 optimal\ndone 1 samples 2 files\n",
         ),
+        // no block of filter 0 is louder than 7 * 4096
         (
-            1,
-            "sample s blocks 65 loop none error 1040 bound 1040 gap 0 levels 0 0 0 1 optimal\ndone 1 samples 2 files\n",
+            32_767,
+            28_672,
+            b"\0\x01wwwwwwwwwwwwww",
+            "sample s blocks 1 loop none error 469532700 bound 469532700 gap 0 levels 0 0 0 1 optimal\ndone 1 samples 2 files\n",
         ),
-    ] {
-        let source = constant(alloc, value, 1040)?;
-        let mut host = host_with(alloc, ONE.as_bytes(), source.as_slice())?;
+    ];
+    for (value, output, block, lines) in rows {
+        let source = constant(alloc, value, 28)?;
+        let mut host = host_with(alloc, VAGS.as_bytes(), source.as_slice())?;
         assert_eq!(rt; code_of(alloc, &mut host, "m.toml")?, 0);
         assert_eq!(rt; host.said(), lines.as_bytes());
+        assert!(rt; host.file("b").is_none());
+        assert_eq!(rt;
+            host.file("b.s.vag").ok_or("no VAG file")?,
+            vag(alloc, block)?.as_slice()
+        );
+        let pass = host.file("b.s.first.wav").ok_or("no first pass")?;
+        assert_eq!(rt; pass, constant(alloc, output, 28)?.as_slice());
     }
+    Ok(())
+}
+
+#[test]
+fn makes_ima_files(rt: HostRuntime) -> Result<(), Fail> {
+    let alloc = rt.alloc();
+    let source = wave(alloc, &[0, 1, 1, 1, 1, 1, 1, 1, 1], None)?;
+    let mut host = host_with(alloc, IMAS.as_bytes(), source.as_slice())?;
+    assert_eq!(rt; code_of(alloc, &mut host, "m.toml")?, 0);
+    assert_eq!(rt;
+        host.said(),
+        "sample s blocks 1 loop none error 0 bound 0 gap 0 levels 0 0 0 1 optimal\ndone 1 samples 2 files\n".as_bytes()
+    );
+    assert_eq!(rt; host.file("b.s.wav").ok_or("no file")?, IMA.as_slice());
+    let pass = host.file("b.s.first.wav").ok_or("no first pass")?;
+    assert_eq!(rt; pass, source.as_slice());
     Ok(())
 }
 
@@ -146,13 +160,13 @@ fn refuses_manifests(rt: HostRuntime) -> Result<(), Fail> {
         ),
         (
             "m.toml",
-            "format = 'spu'\nbank = 'b'\n[[sample]]\nname = 's'\nfile = 's.wav'\n",
+            "format = 'IMA'\nbank = 'b'\n[[sample]]\nname = 's'\nfile = 's.wav'\n",
             "fault 3 manifest BadWord format\n",
         ),
         (
             "m.toml",
-            "format = 'brr'\nbank = 'b'\n[[sample]]\nname = 's'\nfile = 'b'\n",
-            "fault 3 manifest Clash b\n",
+            "format = 'spu'\nbank = 'b'\n[[sample]]\nname = 's'\nfile = 'b.s.vag'\n",
+            "fault 3 manifest Clash b.s.vag\n",
         ),
         ("b", ONE, "fault 3 manifest Clash b\n"),
     ] {
@@ -169,7 +183,7 @@ fn refuses_manifests(rt: HostRuntime) -> Result<(), Fail> {
 #[test]
 fn refuses_sources(rt: HostRuntime) -> Result<(), Fail> {
     let alloc = rt.alloc();
-    let rows: [(Vec<u8>, u8, &str); 5] = [
+    let rows: [(Vec<u8>, u8, &str); 4] = [
         (
             wave(alloc, &[0; 16], Some((0, 16)))?,
             4,
@@ -182,7 +196,6 @@ fn refuses_sources(rt: HostRuntime) -> Result<(), Fail> {
             5,
             "fault 5 s LoopLength 24 16\n",
         ),
-        (constant(alloc, 0, 65_537)?, 5, "fault 5 s TooLong 4097\n"),
     ];
     for (source, code, line) in rows {
         let mut host = host_with(alloc, ONE.as_bytes(), source.as_slice())?;
@@ -204,7 +217,6 @@ fn reads_manifests_up_to_a_length(rt: HostRuntime) -> Result<(), Fail> {
             0,
             "sample s blocks 1 loop none error 0 bound 0 gap 0 levels 0 0 0 1 optimal\ndone 1 samples 2 files\n",
         ),
-        (65_537, 3, "fault 3 manifest TooLong 65537\n"),
         (65_538, 3, "fault 3 manifest TooLong 65537\n"),
     ] {
         let manifest = spaced(alloc, ONE.as_bytes(), len)?;
@@ -259,21 +271,6 @@ fn fills_the_sound_memory(rt: HostRuntime) -> Result<(), Fail> {
         assert_eq!(rt; host.said(), line.as_bytes());
         assert_eq!(rt; host.file("b").is_some(), code == 0);
     }
-    Ok(())
-}
-
-#[test]
-fn refuses_two_samples_that_are_too_long_together(rt: HostRuntime) -> Result<(), Fail> {
-    let alloc = rt.alloc();
-    let manifest =
-        "format = 'brr'\nbank = 'b'\n[[sample]]\nname = 's'\nfile = 's.wav'\n[[sample]]\nname = 't'\nfile = 't.wav'\n";
-    let source = constant(alloc, 0, 16 * 4096)?;
-    let mut host = host_with(alloc, manifest.as_bytes(), source.as_slice())?;
-    host.put("t.wav", constant(alloc, 0, 16 * 3129)?.as_slice())
-        .map_err(|_| "memory")?;
-    assert_eq!(rt; code_of(alloc, &mut host, "m.toml")?, 6);
-    assert_eq!(rt; host.said(), "fault 6 b ImageFull 65545\n".as_bytes());
-    assert!(rt; host.file("b").is_none());
     Ok(())
 }
 

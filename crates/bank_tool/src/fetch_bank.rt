@@ -2,9 +2,9 @@ ghost use Rattle.std.specs.Prelude.{◌≡◌, ◌^◌, ◌≤◌, ◌<◌, leng
 ghost use Rattle.std.specs.List.{sum_by};
 ghost use Rattle.adpcm_nums.specs.Outcome.{Gives};
 ghost use Rattle.host_files.specs.Outside.{Files};
-ghost use Rattle.machine_core.specs.declared.state.Kind.TheVariants.{Brr};
 ghost use Rattle.manifest_reader.specs.declared.manifest.SampleEntry.{SampleEntry};
 ghost use Rattle.manifest_reader.specs.Meaning.{content_of};
+ghost use Rattle.manifest_reader.specs.Ranges.{InRanges};
 ghost use Rattle.command_plan.specs.Steps.{Keeps, IsPlain, ReadsTo};
 ghost use Rattle.bank_tool.specs.declared.source.Source.{Source};
 ghost use Rattle.bank_tool.specs.Compile.{sources_in, sources_reading, with_room};
@@ -13,9 +13,11 @@ ghost use Rattle.command_plan.specs.Reading.{status_of};
 
 use crate::fetch_source::fetch_each;
 use crate::source::Source;
+use bank_compile::samples_in_block;
 use command_plan::{Status, full};
 use host_files::Host;
 use loop_fit::FitRule;
+use machine_core::Kind;
 use manifest_reader::Manifest;
 use snes_directory::{end_address, is_past_end};
 use std::alloc::Global;
@@ -33,10 +35,11 @@ fn all_blocks(sources: &[Source]) -> u64
     all
 }
 
-/// The samples that fit into sound memory.
+/// The samples, where those of an image fit into sound memory.
 #[tactic(auto, unfolding(crate::specs::Compile::with_room))]
 fn with_room(
     alloc: Global,
+    kind: Kind,
     bank: &str,
     base: u32,
     sources: Vec<Source>,
@@ -44,13 +47,18 @@ fn with_room(
     requires { length sources.items ≤ 64 }
     ensures same { IfOk result (λ v. v ≡ sources) }
     ensures plain { IsPlain (status_of result) }
-    ensures value { Gives Status.Memory (λ v. v.items) result (with_room bank.now base sources.items) }
+    ensures value { Gives Status.Memory (λ v. v.items) result (with_room kind bank.now base sources.items) }
 {
-    let total = end_address(base, sources.len() as u64, all_blocks(sources.as_slice()));
-    if is_past_end(total) {
-        return Err(full(alloc, bank, total));
+    match kind {
+        Kind::Brr => {
+            let total = end_address(base, sources.len() as u64, all_blocks(sources.as_slice()));
+            if is_past_end(total) {
+                return Err(full(alloc, bank, total));
+            }
+            Ok(sources)
+        }
+        Kind::Spu | Kind::Ima => Ok(sources),
     }
-    Ok(sources)
 }
 
 /// The samples of a manifest, each from its file, where they fit into sound memory.
@@ -59,10 +67,9 @@ pub(crate) fn fetch_sources<H: Host>(
     host: &mut H,
     manifest: &Manifest,
 ) -> Result<Vec<Source>, Status>
-    requires kind { manifest.now.kind ≡ Brr }
-    requires few { length manifest.now.samples.items ≤ 64 }
+    requires ranges { InRanges (content_of manifest.now) }
     ensures count { IfOk result (λ v. length v.items ≡ length manifest.now.samples.items) }
-    ensures ready { IfOk result (λ v. All IsReady v.items) }
+    ensures ready { IfOk result (λ v. All (IsReady manifest.now.kind manifest.now.block) v.items) }
     ensures named { IfOk result (λ v. map (λ (s : Source). s.name) v.items ≡ map (λ (e : SampleEntry). e.name) manifest.now.samples.items) }
     ensures keeps { Keeps (H.world host.old) (H.world host.new) (status_of result) }
     ensures told { (files : Files) → (H.world host.old).files ≡ Some files →
@@ -70,10 +77,16 @@ pub(crate) fn fetch_sources<H: Host>(
 {
     let rule = FitRule {
         kind: manifest.kind,
-        block: 16,
+        block: samples_in_block(manifest.kind, manifest.block),
         length: manifest.length,
         start: manifest.start,
     };
     let sources = fetch_each(alloc, host, rule, manifest.samples.as_slice())?;
-    with_room(alloc, manifest.bank.as_str(), manifest.base, sources)
+    with_room(
+        alloc,
+        manifest.kind,
+        manifest.bank.as_str(),
+        manifest.base,
+        sources,
+    )
 }

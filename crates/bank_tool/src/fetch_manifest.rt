@@ -1,18 +1,15 @@
 ghost use Rattle.std.specs.Prelude.{◌≡◌, IfOk, Some, Ok};
 ghost use Rattle.adpcm_nums.specs.Outcome.{Gives, Tells};
 ghost use Rattle.host_files.specs.Outside.{Files};
-ghost use Rattle.machine_core.specs.declared.state.Kind.TheVariants.{Brr};
 ghost use Rattle.manifest_reader.specs.Meaning.{content_of};
 ghost use Rattle.manifest_reader.specs.Ranges.{InRanges, StoresOnce};
 ghost use Rattle.command_plan.specs.Reading.{status_of, tested_reading};
 ghost use Rattle.command_plan.specs.Steps.{Keeps, IsPlain, ReadsTo};
-ghost use Rattle.bank_tool.specs.Source.{brr_alone, manifest_in};
+ghost use Rattle.bank_tool.specs.Source.{manifest_in};
 ghost use Rattle.bank_tool.specs.Compile.{meaning_in};
 
-use adpcm_nums::Text;
 use command_plan::{Status, fetch_front};
 use host_files::Host;
-use machine_core::Kind;
 use manifest_reader::{Manifest, ManifestFault, read_manifest};
 use std::alloc::Global;
 
@@ -27,35 +24,16 @@ fn manifest_refused(fault: ManifestFault) -> Status
     }
 }
 
-/// The manifest of a bank of BRR; another format is refused.
-fn brr_alone(alloc: Global, manifest: Manifest) -> Result<Manifest, Status>
-    ensures same { IfOk result (λ m. m ≡ manifest) }
-    ensures kind { IfOk result (λ m. m.kind ≡ Brr) }
-    ensures plain { IsPlain (status_of result) }
-    ensures value { Gives Status.Memory content_of result (brr_alone (content_of manifest)) }
-{
-    match manifest.kind {
-        Kind::Brr => Ok(manifest),
-        Kind::Spu | Kind::Ima => match Text::copy_of(alloc, "format") {
-            Ok(key) => Err(Status::Manifest {
-                fault: ManifestFault::BadWord { key },
-            }),
-            Err(_) => Err(Status::Memory),
-        },
-    }
-}
-
 /// The manifest of this name that the bytes spell.
 #[tactic(auto, unfolding(crate::specs::Source::manifest_in))]
 fn manifest_in(alloc: Global, own: &str, bytes: &[u8]) -> Result<Manifest, Status>
     ensures ranges { IfOk result (λ m. InRanges (content_of m)) }
     ensures once { IfOk result (λ m. StoresOnce m.kind m.bank m.samples.items) }
-    ensures kind { IfOk result (λ m. m.kind ≡ Brr) }
     ensures plain { IsPlain (status_of result) }
     ensures value { Gives Status.Memory content_of result (manifest_in own.now bytes.now) }
 {
     match read_manifest(alloc, bytes, own) {
-        Ok(manifest) => brr_alone(alloc, manifest),
+        Ok(manifest) => Ok(manifest),
         Err(fault) => Err(manifest_refused(fault)),
     }
 }
@@ -68,7 +46,6 @@ pub(crate) fn fetch_manifest<H: Host>(
 ) -> Result<Manifest, Status>
     ensures ranges { IfOk result (λ m. InRanges (content_of m)) }
     ensures once { IfOk result (λ m. StoresOnce m.kind m.bank m.samples.items) }
-    ensures kind { IfOk result (λ m. m.kind ≡ Brr) }
     ensures keeps { Keeps (H.world host.old) (H.world host.new) (status_of result) }
     ensures told { (files : Files) → (H.world host.old).files ≡ Some files →
         ReadsTo (tested_reading name.now (meaning_in files name.now)) (H.world host.old) (H.world host.new) result (λ m. meaning_in files name.now ≡ Ok (content_of m)) }

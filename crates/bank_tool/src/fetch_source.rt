@@ -1,12 +1,13 @@
 ghost use Rattle.std.specs.Prelude.{◌≡◌, length, map, All, IfOk, Some, Ok};
 ghost use Rattle.host_files.specs.Outside.{Files};
-ghost use Rattle.machine_core.specs.declared.state.Kind.TheVariants.{Brr};
+ghost use Rattle.manifest_reader.specs.Ranges.{IsEntry};
+ghost use Rattle.loop_fit.specs.Source.{IsBlockOf};
 ghost use Rattle.command_plan.specs.Reading.{status_of, read_each};
 ghost use Rattle.command_plan.specs.Steps.{Keeps, ReadsTo};
 ghost use Rattle.bank_tool.specs.Compile.{each_of, source_in, source_reading};
 ghost use Rattle.manifest_reader.specs.declared.manifest.SampleEntry.{SampleEntry};
 ghost use Rattle.bank_tool.specs.declared.source.Source.{Source};
-ghost use Rattle.bank_tool.specs.Ready.{IsReady};
+ghost use Rattle.bank_tool.specs.Ready.{IsReadyBy};
 
 use crate::read_source::read_source;
 use crate::source::Source;
@@ -23,9 +24,9 @@ fn fetch_source<H: Host>(
     rule: FitRule,
     entry: &SampleEntry,
 ) -> Result<Source, Status>
-    requires kind { rule.kind ≡ Brr }
-    requires block { rule.block ≡ 16 }
-    ensures ready { IfOk result IsReady }
+    requires block { IsBlockOf rule.kind rule.block }
+    requires entry { IsEntry entry.now }
+    ensures ready { IfOk result (IsReadyBy rule) }
     ensures named { IfOk result (λ s. s.name ≡ entry.now.name) }
     ensures keeps { Keeps (H.world host.old) (H.world host.new) (status_of result) }
     ensures told { (files : Files) → (H.world host.old).files ≡ Some files →
@@ -42,10 +43,10 @@ pub(crate) fn fetch_each<H: Host>(
     rule: FitRule,
     entries: &[SampleEntry],
 ) -> Result<Vec<Source>, Status>
-    requires kind { rule.kind ≡ Brr }
-    requires block { rule.block ≡ 16 }
+    requires block { IsBlockOf rule.kind rule.block }
+    requires entries { All IsEntry entries.now }
     ensures count { IfOk result (λ v. length v.items ≡ length entries.now) }
-    ensures ready { IfOk result (λ v. All IsReady v.items) }
+    ensures ready { IfOk result (λ v. All (IsReadyBy rule) v.items) }
     ensures named { IfOk result (λ v. map (λ (s : Source). s.name) v.items ≡ map (λ (e : SampleEntry). e.name) entries.now) }
     ensures keeps { Keeps (H.world host.old) (H.world host.new) (status_of result) }
     ensures told { (files : Files) → (H.world host.old).files ≡ Some files →

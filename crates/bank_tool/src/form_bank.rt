@@ -1,10 +1,10 @@
-ghost use Rattle.std.specs.Prelude.{◌≡◌, ◌≤◌, length, map, All, IfOk};
+ghost use Rattle.std.specs.Prelude.{◌≡◌, ◌≤◌, length, map, All, IsTrue, IfOk};
 ghost use Rattle.std.specs.List.{AllZip};
-ghost use Rattle.machine_core.specs.declared.state.Kind.TheVariants.{Brr};
 ghost use Rattle.manifest_reader.specs.declared.manifest.SampleEntry.{SampleEntry};
 ghost use Rattle.manifest_reader.specs.Meaning.{content_of};
 ghost use Rattle.manifest_reader.specs.Ranges.{IsWithin, StoresOnce};
-ghost use Rattle.bank_compile.specs.Kinds.{brr_codec};
+ghost use Rattle.ima_machine.specs.Ima.{is_align};
+ghost use Rattle.bank_compile.specs.Kinds.{codec_for};
 ghost use Rattle.bank_compile.specs.Bank.{IsOut};
 ghost use Rattle.bank_tool.specs.declared.source.Source.{Source};
 ghost use Rattle.bank_tool.specs.Compile.{IsMadeOf, IsBank};
@@ -13,16 +13,18 @@ ghost use Rattle.bank_tool.specs.Ready.{IsReady};
 use crate::source::Source;
 use adpcm_nums::{NoMemory, Text};
 use bank_compile::{
-    NamedFile, SampleOut, bound_holds, compile_bank, compile_sample, report, stored_bank_replays,
+    NamedFile, SampleOut, bound_holds, compile_bank, compile_sample, kinds_encode, report,
+    stored_bank_replays,
 };
 use manifest_reader::Manifest;
 use std::alloc::Global;
 
 /// One source, compiled.
 fn compile_source(alloc: Global, manifest: &Manifest, source: Source) -> Result<SampleOut, NoMemory>
-    requires { IsReady source }
-    ensures made { IfOk result (IsMadeOf source) }
-    ensures out { IfOk result (IsOut brr_codec) }
+    requires block { IsTrue (is_align manifest.now.block) }
+    requires ready { IsReady manifest.now.kind manifest.now.block source }
+    ensures made { IfOk result (IsMadeOf manifest.now.kind manifest.now.block source) }
+    ensures out { IfOk result (IsOut (codec_for manifest.now.kind manifest.now.block)) }
     ensures bound { IfOk result (λ out. out.report.bound ≤ out.report.error) }
 {
     let Source { name, rate, fitted } = source;
@@ -35,10 +37,11 @@ fn compile_all(
     manifest: &Manifest,
     sources: Vec<Source>,
 ) -> Result<Vec<SampleOut>, NoMemory>
-    requires { All IsReady sources.items }
+    requires block { IsTrue (is_align manifest.now.block) }
+    requires ready { All (IsReady manifest.now.kind manifest.now.block) sources.items }
     ensures count { IfOk result (λ outs. length outs.items ≡ length sources.items) }
-    ensures made { IfOk result (λ outs. AllZip IsMadeOf sources.items outs.items) }
-    ensures outs { IfOk result (λ outs. All (IsOut brr_codec) outs.items) }
+    ensures made { IfOk result (λ outs. AllZip (IsMadeOf manifest.now.kind manifest.now.block) sources.items outs.items) }
+    ensures outs { IfOk result (λ outs. All (IsOut (codec_for manifest.now.kind manifest.now.block)) outs.items) }
     ensures bounds { IfOk result (λ outs. All (λ out. out.report.bound ≤ out.report.error) outs.items) }
 {
     let mut outs = Vec::new(alloc);
@@ -54,7 +57,7 @@ fn compile_all(
 
 /// The files of a bank and its report.
 ///
-/// The samples have room in sound memory, so laying them out is refused for want of memory alone.
+/// The samples of an image have room in sound memory, so laying them out is refused for want of memory alone.
 pub(crate) fn form_bank(
     alloc: Global,
     manifest: &Manifest,
@@ -63,18 +66,20 @@ pub(crate) fn form_bank(
     requires base { IsWithin 0 65280 256 manifest.now.base }
     requires some { 1 ≤ length sources.items }
     requires few { length sources.items ≤ 64 }
-    requires ready { All IsReady sources.items }
-    requires kind { manifest.now.kind ≡ Brr }
+    requires ready { All (IsReady manifest.now.kind manifest.now.block) sources.items }
+    requires block { IsTrue (is_align manifest.now.block) }
     requires named { map (λ (s : Source). s.name) sources.items ≡ map (λ (e : SampleEntry). e.name) manifest.now.samples.items }
     requires once { StoresOnce manifest.now.kind manifest.now.bank manifest.now.samples.items }
     ensures { IfOk result (λ r. IsBank (content_of manifest.now) sources.items r.0.items r.1) }
 {
     stored_bank_replays();
     bound_holds();
+    kinds_encode();
     let outs = compile_all(alloc, manifest, sources)?;
-    let line = report(alloc, outs.as_slice())?;
-    match compile_bank(alloc, manifest, outs.as_slice()) {
-        Ok(files) => Ok((files, line)),
-        Err(_) => Err(NoMemory),
-    }
+    let files = match compile_bank(alloc, manifest, outs.as_slice()) {
+        Ok(files) => files,
+        Err(_) => return Err(NoMemory),
+    };
+    let line = report(alloc, outs.as_slice(), files.len() as u32)?;
+    Ok((files, line))
 }

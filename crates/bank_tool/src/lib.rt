@@ -1,8 +1,8 @@
 //! The commands of the program, over any host.
 //!
 //! [`run`] reads the words and does what they ask for; each command has a public call of its own.
-//! So far there are `block IN OUT`, which makes one block of sixteen samples, `compile MANIFEST`, which makes a bank, and
-//! `play brr FILE ENTRY COUNT`, which says the first outputs of an entry of an image file.
+//! So far there are `block IN OUT`, which makes one block of sixteen samples, `compile MANIFEST`, which makes a bank of BRR or
+//! of SPU-ADPCM, and `play FORM FILE ENTRY COUNT`, which says the first outputs of an entry of an image or of a VAG file.
 //!
 //! A command joins by one case each in [`Command`], `command_in`, `course_of`, `choice_of` and
 //! `obey`; `command_plan` says how its own function is written.
@@ -14,6 +14,8 @@ mod fetch_bank;
 mod fetch_manifest;
 mod fetch_source;
 mod form_bank;
+mod ima_outputs;
+mod image_outputs;
 mod numbers;
 mod outputs;
 mod play;
@@ -21,6 +23,7 @@ mod play_words;
 mod read_source;
 mod source;
 mod top;
+mod vag_outputs;
 mod words;
 
 pub use block::run_block;

@@ -1,111 +1,27 @@
-ghost use Rattle.std.specs.Prelude.{◌≡◌, ◌^◌, ◌<◌, length, IfOk, IfSome};
-ghost use Rattle.adpcm_nums.specs.First.{first_where};
+ghost use Rattle.std.specs.Prelude.{◌≡◌, ◌^◌, ◌<◌, ◌≤◌, length, IfOk};
 ghost use Rattle.adpcm_nums.specs.Outcome.{Gives};
-ghost use Rattle.snes_directory.specs.Reading.{IsImage};
-ghost use Rattle.bank_tool.specs.Play.{blocks_in, image_in, is_long, play_lines, said_of, track_at, track_in};
+ghost use Rattle.player_model.specs.Sound.{heard};
+ghost use Rattle.bank_tool.specs.Play.{play_lines, said_of, whole_in};
 
+use crate::ima_outputs::ima_said;
+use crate::image_outputs::image_said;
+use crate::vag_outputs::vag_said;
 use adpcm_nums::{NoMemory, Text};
 use command_plan::{InputFault, Status, input_refused};
-use player_model::{BrrPlayer, BrrTrack, TrackFault, brr_track};
-use snes_directory::{Image, ImageFault, read_image};
+use machine_core::Kind;
+use player_model::{StoredFormat, StoredPlayer, StoredTrack};
 use std::alloc::Global;
-
-/// The image in the front of a file, which may have 8,388,608 bytes.
-#[tactic(auto, unfolding(crate::specs::Play::image_in))]
-fn image_in(alloc: Global, file: &str, front: &[u8]) -> Result<Image, Status>
-    requires { length front.now < 2 ^ 31 }
-    ensures exact { Gives Status.Memory (λ image. image) result (image_in file.now front.now) }
-    ensures image { IfOk result IsImage }
-{
-    if front.len() > 8_388_608 {
-        let most = 8_388_608;
-        return Err(input_refused(alloc, file, InputFault::FileLong { most }));
-    }
-    match read_image(alloc, front) {
-        Ok(image) => Ok(image),
-        Err(ImageFault::NoMemory) => Err(Status::Memory),
-        Err(fault) => Err(input_refused(alloc, file, InputFault::Image { fault })),
-    }
-}
-
-/// The track of an entry.
-fn track_at(image: &Image, entry: u32) -> Result<BrrTrack<'_>, TrackFault>
-    requires image { IsImage image.now }
-    requires within { entry < length image.now.starts }
-    ensures { result ≡ track_at image.now entry }
-{
-    let i = entry as usize;
-    let start = image.starts.as_slice()[i];
-    let again = image.agains.as_slice()[i];
-    brr_track(image.memory.as_slice(), start, again)
-}
-
-/// The number of an entry's blocks.
-fn blocks_of(image: &Image, entry: u32) -> u32
-    requires image { IsImage image.now }
-    requires within { entry < length image.now.starts }
-    ensures { result ≡ blocks_in (track_at image.now entry) }
-{
-    match track_at(image, entry) {
-        Ok(track) => track.blocks(),
-        Err(_) => 0,
-    }
-}
-
-/// The number of entries.
-fn entries(image: &Image) -> u32
-    requires { IsImage image.now }
-    ensures { result ≡ length image.now.starts }
-{
-    image.starts.as_slice().len() as u32
-}
-
-/// The first entry of more than 4,096 blocks, if there is one.
-#[tactic(auto, using(adpcm_nums::proofs::FirstLaws::none_at_zero, adpcm_nums::proofs::FirstLaws::none_more, adpcm_nums::proofs::FirstLaws::first_found))]
-fn first_long(image: &Image) -> Option<u32>
-    requires { IsImage image.now }
-    ensures value { result ≡ first_where (is_long image.now) (length image.now.starts) }
-    ensures within { IfSome result (λ i. i < length image.now.starts) }
-{
-    for i in 0..entries(image) {
-        if blocks_of(image, i) > 4096 {
-            return Some(i);
-        }
-    }
-    None
-}
-
-/// The track of an entry, where none of the entries has more than 4,096 blocks.
-#[tactic(auto, unfolding(crate::specs::Play::track_in))]
-fn track_in<'b>(
-    alloc: Global,
-    file: &str,
-    image: &'b Image,
-    entry: u32,
-) -> Result<BrrTrack<'b>, Status>
-    requires { IsImage image.now }
-    ensures { Gives Status.Memory (λ track. track) result (track_in file.now image.now entry) }
-{
-    if let Some(i) = first_long(image) {
-        let blocks = u64::from(blocks_of(image, i));
-        return Err(input_refused(alloc, file, InputFault::TooMuch { blocks }));
-    }
-    let count = entries(image);
-    if entry >= count {
-        return Err(input_refused(alloc, file, InputFault::NoEntry { entry, count }));
-    }
-    match track_at(image, entry) {
-        Ok(track) => Ok(track),
-        Err(fault) => Err(input_refused(alloc, file, InputFault::Track { fault })),
-    }
-}
 
 /// The first outputs of a track, one in a line.
 #[tactic(auto, unfolding(crate::specs::Play::play_lines))]
-fn play_lines(alloc: Global, track: BrrTrack<'_>, count: u32) -> Result<Text, NoMemory>
-    ensures { IfOk result (λ lines. lines ≡ play_lines track.entry count) }
+pub(crate) fn play_lines<F: StoredFormat>(
+    alloc: Global,
+    track: StoredTrack<'_, F>,
+    count: u32,
+) -> Result<Text, NoMemory>
+    ensures { IfOk result (λ lines. lines ≡ play_lines (heard F.decoder F.format track.entry) count) }
 {
-    let mut player = BrrPlayer::new(track);
+    let mut player = StoredPlayer::new(track);
     let mut lines = String::new(alloc);
     for i in 0..count {
         let output = player.next();
@@ -116,22 +32,35 @@ fn play_lines(alloc: Global, track: BrrTrack<'_>, count: u32) -> Result<Text, No
     Ok(Text::from_string(lines))
 }
 
-/// The first outputs of an entry of the image in the front of a file, one in a line.
+/// The front of a file that may have 8,388,608 bytes.
+#[tactic(auto, unfolding(crate::specs::Play::whole_in))]
+fn whole_in<'b>(alloc: Global, file: &str, front: &'b [u8]) -> Result<&'b [u8], Status>
+    ensures exact { Gives Status.Memory (λ bytes. bytes.now) result (whole_in file.now front.now) }
+    ensures few { IfOk result (λ bytes. length bytes.now ≤ 8388608) }
+{
+    if front.len() > 8_388_608 {
+        let most = 8_388_608;
+        return Err(input_refused(alloc, file, InputFault::FileLong { most }));
+    }
+    Ok(front)
+}
+
+/// The first outputs of an entry of the file that a front is, one in a line.
 #[tactic(auto, unfolding(crate::specs::Play::said_of))]
 pub(crate) fn said_of(
     alloc: Global,
+    kind: Kind,
     file: &str,
     front: &[u8],
     entry: u32,
     count: u32,
 ) -> Result<Text, Status>
-    requires { length front.now < 2 ^ 31 }
-    ensures { Gives Status.Memory (λ lines. lines) result (said_of file.now entry count front.now) }
+    ensures { Gives Status.Memory (λ lines. lines) result (said_of kind file.now entry count front.now) }
 {
-    let image = image_in(alloc, file, front)?;
-    let track = track_in(alloc, file, &image, entry)?;
-    match play_lines(alloc, track, count) {
-        Ok(lines) => Ok(lines),
-        Err(NoMemory) => Err(Status::Memory),
+    let bytes = whole_in(alloc, file, front)?;
+    match kind {
+        Kind::Brr => image_said(alloc, file, bytes, entry, count),
+        Kind::Spu => vag_said(alloc, file, bytes, entry, count),
+        Kind::Ima => ima_said(alloc, file, bytes, entry, count),
     }
 }

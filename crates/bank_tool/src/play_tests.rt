@@ -1,4 +1,5 @@
 use super::{Command, Status, read_words, run, run_play};
+use crate::test_files::{IMA, vag};
 use crate::test_words::words;
 use host_files::{MemoryHost, SteadyHost};
 use machine_core::Kind;
@@ -11,6 +12,11 @@ const FADING: [u8; 42] = [
     b'S', b'N', b'B', b'I', 1, 0, 1, 0, 0x00, 0x02, 0, 0, 22, 0, 0, 0, 0x00, 0x7D, 0, 0, 0x04,
     0x02, 0x0D, 0x02, 0x50, 0x11, 0x11, 0x11, 0x11, 0x11, 0x11, 0x11, 0x11, 0x07, 0, 0, 0, 0, 0, 0,
     0, 0,
+];
+
+/// A block of SPU-ADPCM of filter 0 and shift 0 with codes 7, which ends the sample.
+const LOUD: [u8; 16] = [
+    0x00, 0x01, 0x77, 0x77, 0x77, 0x77, 0x77, 0x77, 0x77, 0x77, 0x77, 0x77, 0x77, 0x77, 0x77, 0x77,
 ];
 
 /// What the words say over a file `b`.
@@ -85,19 +91,70 @@ fn tells_the_fault_of_an_image(rt: HostRuntime) -> Result<(), Fail> {
 #[test]
 fn refuses_long_entries(rt: HostRuntime) -> Result<(), Fail> {
     let alloc = rt.alloc();
-    for (blocks, low, line) in [
-        (4096, 0x04, "fault 4 b NoEntry 7 1\n"),
-        (4097, 0x0D, "fault 4 b TooMuch 4097\n"),
+    let mut bytes = Vec::from_slice(alloc, &FADING[..24])?;
+    bytes.as_mut_slice()[12..14].copy_from_slice(&[0x0D, 0x90]);
+    for _ in 1..4097 {
+        bytes.extend_from_slice(&[0; 9])?;
+    }
+    bytes.extend_from_slice(&[1, 0, 0, 0, 0, 0, 0, 0, 0])?;
+    let (code, said) = said_of(alloc, bytes.as_slice(), &["play", "brr", "b", "7", "0"])?;
+    assert_eq!(rt; code, 4);
+    assert_eq!(rt; said.as_str(), "fault 4 b TooMuch 4097\n");
+    Ok(())
+}
+
+#[test]
+fn plays_vag_files(rt: HostRuntime) -> Result<(), Fail> {
+    let alloc = rt.alloc();
+    let file = vag(alloc, &LOUD)?;
+    let (code, said) = said_of(alloc, file.as_slice(), &["play", "vag", "b", "0", "29"])?;
+    assert_eq!(rt; code, 0);
+    assert_eq!(rt;
+        said.as_str(),
+        "28672\n28672\n28672\n28672\n28672\n28672\n28672\n28672\n28672\n28672\n28672\n28672\n28672\n28672\n28672\n28672\n28672\n28672\n28672\n28672\n28672\n28672\n28672\n28672\n28672\n28672\n28672\n28672\n0\n"
+    );
+    Ok(())
+}
+
+#[test]
+fn tells_the_fault_of_a_vag_file(rt: HostRuntime) -> Result<(), Fail> {
+    let alloc = rt.alloc();
+    for (place, byte, line) in [
+        (3, b'q', "fault 4 b NotVag\n"),
+        (18, 0, "fault 4 b BadRate 0\n"),
+        (15, 15, "fault 4 b Ragged 15\n"),
+        (49, 0, "fault 4 b NoEnd\n"),
+        (49, 3, "fault 4 b NoLoopStart 0\n"),
+        (48, 0x50, "fault 4 b BadFilter 0 5\n"),
+        (0, b'V', "fault 4 b NoEntry 1 1\n"),
     ] {
-        let mut front = FADING;
-        front[12] = low;
-        front[13] = 0x90;
-        let mut bytes = Vec::from_slice(alloc, &front[..24])?;
-        for _ in 1..blocks {
-            bytes.extend_from_slice(&[0; 9])?;
-        }
-        bytes.extend_from_slice(&[1, 0, 0, 0, 0, 0, 0, 0, 0])?;
-        let (code, said) = said_of(alloc, bytes.as_slice(), &["play", "brr", "b", "7", "0"])?;
+        let mut bytes = vag(alloc, &LOUD)?;
+        *bytes.as_mut_slice().get_mut(place).ok_or("a place")? = byte;
+        let (code, said) = said_of(alloc, bytes.as_slice(), &["play", "vag", "b", "1", "5"])?;
+        assert_eq!(rt; code, 4);
+        assert_eq!(rt; said.as_str(), line);
+    }
+    let (code, said) = said_of(alloc, b"VAGp", &["play", "vag", "b", "0", "5"])?;
+    assert_eq!(rt; code, 4);
+    assert_eq!(rt; said.as_str(), "fault 4 b VagShort 4\n");
+    Ok(())
+}
+
+#[test]
+fn plays_ima_files(rt: HostRuntime) -> Result<(), Fail> {
+    let alloc = rt.alloc();
+    let (code, said) = said_of(alloc, &IMA, &["play", "ima", "b", "0", "11"])?;
+    assert_eq!(rt; code, 0);
+    assert_eq!(rt; said.as_str(), "0\n1\n1\n1\n1\n1\n1\n1\n1\n0\n0\n");
+    for (place, byte, line) in [
+        (20, 1, "fault 4 b NotIma 1\n"),
+        (3, b'f', "fault 4 b NotRiff\n"),
+        (62, 89, "fault 4 b BadHead 0 BadIndex 89\n"),
+        (0, b'R', "fault 4 b NoEntry 1 1\n"),
+    ] {
+        let mut bytes = IMA;
+        *bytes.get_mut(place).ok_or("a place")? = byte;
+        let (code, said) = said_of(alloc, &bytes, &["play", "ima", "b", "1", "5"])?;
         assert_eq!(rt; code, 4);
         assert_eq!(rt; said.as_str(), line);
     }
@@ -115,7 +172,7 @@ fn reads_numbers_as_words(rt: HostRuntime) -> Result<(), Fail> {
         ["play", "brr", "b", "0", "99999999999999999999"],
         ["play", "brr", "b", "+0", "5"],
         ["play", "brr", "b", "0", "5 "],
-        ["play", "vag", "b", "0", "5"],
+        ["play", "wav", "b", "0", "5"],
         ["Play", "brr", "b", "0", "5"],
     ] {
         let (code, said) = said_of(alloc, &FADING, &texts)?;

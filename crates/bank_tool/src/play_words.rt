@@ -11,7 +11,12 @@ use std::alloc::Global;
 fn kind_of(word: &str) -> Option<Kind>
     ensures { result ≡ kind_of word.now }
 {
-    if word == "brr" { Some(Kind::Brr) } else { None }
+    match word {
+        "brr" => Some(Kind::Brr),
+        "vag" => Some(Kind::Spu),
+        "ima" => Some(Kind::Ima),
+        _ => None,
+    }
 }
 
 /// The command `play` with these words behind its name, if they are one.

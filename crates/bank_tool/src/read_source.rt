@@ -1,18 +1,18 @@
-ghost use Rattle.std.specs.Prelude.{◌≡◌, ◌≤◌, length, IfOk, IfSome};
+ghost use Rattle.std.specs.Prelude.{◌≡◌, ◌≤◌, ℕ, length, IfOk, IfSome};
 ghost use Rattle.adpcm_nums.specs.Outcome.{Gives, Tells};
 ghost use Rattle.adpcm_nums.specs.Sample.{AreSamples};
-ghost use Rattle.machine_core.specs.declared.state.Kind.TheVariants.{Brr};
-ghost use Rattle.loop_fit.specs.Source.{IsLoopIn};
-ghost use Rattle.bank_compile.specs.Kinds.{brr_codec};
+ghost use Rattle.manifest_reader.specs.Ranges.{IsEntry};
+ghost use Rattle.loop_fit.specs.Source.{IsLoopIn, IsBlockOf};
+ghost use Rattle.bank_compile.specs.Kinds.{codec_for};
 ghost use Rattle.bank_compile.specs.Sample.{IsFit};
 ghost use Rattle.bank_tool.specs.Source.{sound_in, loop_in, fit_in, source_of};
-ghost use Rattle.bank_tool.specs.Ready.{IsReady};
+ghost use Rattle.bank_tool.specs.Ready.{IsReadyBy};
 ghost use Rattle.command_plan.specs.Steps.{IsPlain};
 ghost use Rattle.command_plan.specs.Reading.{status_of};
 
 use crate::source::Source;
 use adpcm_nums::{LoopAt, Text};
-use bank_compile::fit_is_brr;
+use bank_compile::fit_is_ready;
 use command_plan::{InputFault, Status, input_refused, unfit};
 use loop_fit::{FitFault, FitRule, Fitted, fit};
 use manifest_reader::SampleEntry;
@@ -87,7 +87,7 @@ fn read_loop(alloc: Global, entry: &SampleEntry, wave: &Wave) -> Result<Option<L
     }
 }
 
-/// The sound brought to whole blocks of BRR.
+/// The sound brought to whole blocks.
 #[tactic(auto, unfolding(crate::specs::Source::fit_in))]
 fn fit_sound(
     alloc: Global,
@@ -96,16 +96,15 @@ fn fit_sound(
     wave: &Wave,
     at: Option<LoopAt>,
 ) -> Result<Fitted, Status>
-    requires kind { rule.kind ≡ Brr }
-    requires block { rule.block ≡ 16 }
+    requires block { IsBlockOf rule.kind rule.block }
     requires count { length wave.now.samples ≤ 4194304 }
     requires range { AreSamples wave.now.samples }
     requires inside { IfSome at (IsLoopIn (length wave.now.samples)) }
-    ensures fit { IfOk result (IsFit brr_codec) }
+    ensures fit { IfOk result (λ fitted. (block : ℕ) → rule.block ≡ (codec_for rule.kind block).rules.decoder.samples → IsFit (codec_for rule.kind block) fitted) }
     ensures plain { IsPlain (status_of result) }
     ensures value { Gives Status.Memory (λ fitted. fitted) result (fit_in rule entry.now wave.now at) }
 {
-    fit_is_brr();
+    fit_is_ready();
     match fit(alloc, wave.samples.as_slice(), at, rule) {
         Ok(fitted) => Ok(fitted),
         Err(fault) => Err(fit_refused(alloc, entry.name.as_str(), fault)),
@@ -120,9 +119,9 @@ pub(crate) fn read_source(
     entry: &SampleEntry,
     bytes: &[u8],
 ) -> Result<Source, Status>
-    requires kind { rule.kind ≡ Brr }
-    requires block { rule.block ≡ 16 }
-    ensures ready { IfOk result IsReady }
+    requires block { IsBlockOf rule.kind rule.block }
+    requires entry { IsEntry entry.now }
+    ensures ready { IfOk result (IsReadyBy rule) }
     ensures named { IfOk result (λ s. s.name ≡ entry.now.name) }
     ensures plain { IsPlain (status_of result) }
     ensures value { Gives Status.Memory (λ source. source) result (source_of rule entry.now bytes.now) }

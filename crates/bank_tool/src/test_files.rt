@@ -2,6 +2,13 @@ use byteorder::{ByteOrder, LittleEndian};
 use std::alloc::Global;
 use std::test::Fail;
 
+/// A WAVE file of IMA ADPCM at 32,000 frames a second of one block of 8 bytes: 0, and 1 eight times.
+pub(crate) const IMA: [u8; 68] = [
+    b'R', b'I', b'F', b'F', 60, 0, 0, 0, b'W', b'A', b'V', b'E', b'f', b'm', b't', b' ', 20, 0, 0,
+    0, 17, 0, 1, 0, 0x00, 0x7D, 0, 0, 0x1C, 0x6F, 0, 0, 8, 0, 4, 0, 2, 0, 9, 0, b'f', b'a', b'c',
+    b't', 4, 0, 0, 0, 9, 0, 0, 0, b'd', b'a', b't', b'a', 8, 0, 0, 0, 0, 0, 0, 0, 1, 0, 0, 0,
+];
+
 /// Adds a number of 32 bits, the low byte first.
 pub(crate) fn push_number(bytes: &mut Vec<u8>, number: u32) -> Result<(), Fail> {
     let mut four = [0; 4];
@@ -71,6 +78,19 @@ pub(crate) fn constant(alloc: Global, value: i16, frames: usize) -> Result<Vec<u
     wave(alloc, samples.as_slice(), None)
 }
 
+/// A WAVE file of sixteen zeros and then eight times a sample and 6144, with no loop.
+pub(crate) fn pulses(alloc: Global, low: i16) -> Result<Vec<u8>, Fail> {
+    let mut samples = Vec::new(alloc);
+    for _ in 0..16 {
+        samples.push(0)?;
+    }
+    for _ in 0..8 {
+        samples.push(low)?;
+        samples.push(6144)?;
+    }
+    wave(alloc, samples.as_slice(), None)
+}
+
 /// A file that begins with some bytes and goes on with spaces.
 pub(crate) fn spaced(alloc: Global, front: &[u8], len: usize) -> Result<Vec<u8>, Fail> {
     let mut bytes = Vec::from_slice(alloc, front)?;
@@ -85,6 +105,16 @@ pub(crate) fn image(alloc: Global, again: u8, blocks: &[u8]) -> Result<Vec<u8>, 
     let mut bytes = Vec::from_slice(alloc, b"SNBI\x01\0\x01\0\0\x02\0\0")?;
     push_length(&mut bytes, 4 + blocks.len())?;
     bytes.extend_from_slice(&[0x00, 0x7D, 0, 0, 0x04, 0x02, again, 0x02])?;
+    bytes.extend_from_slice(blocks)?;
+    Ok(bytes)
+}
+
+/// A VAG file of one sample `s` at 32,000 samples a second, of fewer than 256 bytes of blocks.
+pub(crate) fn vag(alloc: Global, blocks: &[u8]) -> Result<Vec<u8>, Fail> {
+    let len = u8::try_from(blocks.len()).map_err(|_| "a length")?;
+    let mut bytes = Vec::from_slice(alloc, b"VAGp\0\0\0\x20\0\0\0\0\0\0\0")?;
+    bytes.push(len)?;
+    bytes.extend_from_slice(b"\0\0\x7D\0\0\0\0\0\0\0\0\0\0\0\0\0s\0\0\0\0\0\0\0\0\0\0\0\0\0\0\0")?;
     bytes.extend_from_slice(blocks)?;
     Ok(bytes)
 }

@@ -9,7 +9,6 @@ ghost use Rattle.bank_tool.specs.Words.{command_of};
 ghost use Rattle.bank_tool.specs.Block.{AnswersBlock};
 ghost use Rattle.bank_tool.specs.Compiled.{AnswersCompile};
 ghost use Rattle.bank_tool.specs.Play.{AnswersPlay};
-ghost use Rattle.bank_tool.specs.PlayWords.{PlaysBrr};
 ghost use Rattle.bank_tool.specs.Commands.{course_of, choice_of};
 
 use crate::block::run_block;
@@ -40,7 +39,7 @@ pub fn run<H: Host>(alloc: Global, host: &mut H, words: &[String]) -> Status
         AnswersCompile files manifest (H.world host.old) (H.world host.new) result }
     // And what it says of `play`.
     ensures play { (files : Files) (kind : Kind) (file : List ℕ) (entry count : ℕ) → (H.world host.old).files ≡ Some files → command_of (map string_bytes words.now) ≡ Some (Command.Play kind file entry count) →
-        AnswersPlay files file entry count (H.world host.old) (H.world host.new) result }
+        AnswersPlay files kind file entry count (H.world host.old) (H.world host.new) result }
     // Where the host does not fail, the answer is the one of the words' course, unless there was no memory.
     ensures course { (files : Files) → (H.world host.old).files ≡ Some files → is_device result ≡ false →
         Tells Status.Memory result (course_of (command_of (map string_bytes words.now)) files).outcome }
@@ -59,7 +58,6 @@ pub fn run<H: Host>(alloc: Global, host: &mut H, words: &[String]) -> Status
 
 /// Does what a command asks for.
 fn obey<H: Host>(alloc: Global, host: &mut H, command: &Command) -> Status
-    requires { PlaysBrr command.now }
     ensures told { (files : Files) → (H.world host.old).files ≡ Some files →
         Promises (course_of (Some command.now) files) (choice_of (Some command.now) files) (H.world host.old) (H.world host.new) result }
     ensures keeps { Keeps (H.world host.old) (H.world host.new) result }

@@ -1,6 +1,5 @@
-ghost use Rattle.std.specs.Prelude.{◌≡◌, IfOk, IfSome, map, string_bytes};
+ghost use Rattle.std.specs.Prelude.{◌≡◌, IfOk, map, string_bytes};
 ghost use Rattle.std.specs.List.{list_all};
-ghost use Rattle.bank_tool.specs.PlayWords.{PlaysBrr};
 ghost use Rattle.bank_tool.specs.Words.{is_word, command_in, command_of};
 
 use crate::play_words::play_command;
@@ -97,8 +96,7 @@ fn known_command(alloc: Global, words: &[String]) -> Result<Option<Command>, NoM
 /// Words are compared exactly. A word that is empty or begins with `-` makes them no command (this
 /// project's own choice).
 pub fn read_words(alloc: Global, words: &[String]) -> Result<Option<Command>, NoMemory>
-    ensures value { IfOk result (λ o. o ≡ command_of (map string_bytes words.now)) }
-    ensures brr { IfOk result (λ o. IfSome o PlaysBrr) }
+    ensures { IfOk result (λ o. o ≡ command_of (map string_bytes words.now)) }
 {
     if may_all_stand(words) {
         known_command(alloc, words)

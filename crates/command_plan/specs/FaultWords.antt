@@ -10,14 +10,20 @@ use Rattle.loop_fit.specs.declared.fault.FitFault.{FitFault}
 use Rattle.loop_fit.specs.declared.fault.FitFault.TheVariants as fit
 use Rattle.snes_directory.specs.declared.fault.ImageFault.{ImageFault}
 use Rattle.snes_directory.specs.declared.fault.ImageFault.TheVariants as image
+use Rattle.vag_writer.specs.declared.fault.VagFault.{VagFault}
+use Rattle.vag_writer.specs.declared.fault.VagFault.TheVariants as vag
+use Rattle.ima_machine.specs.declared.fault.ImaFault.{ImaFault}
+use Rattle.ima_machine.specs.declared.fault.ImaFault.TheVariants as head
+use Rattle.ima_wave.specs.declared.fault.ImaWaveFault.{ImaWaveFault}
+use Rattle.ima_wave.specs.declared.fault.ImaWaveFault.TheVariants as ima
 use Rattle.player_model.specs.declared.fault.TrackFault.{TrackFault}
-use Rattle.player_model.specs.declared.fault.TrackFault.TheVariants.{NoEnd, BadAgain, Split, BadFilter}
+use Rattle.player_model.specs.declared.fault.TrackFault.TheVariants.{NoEnd, BadAgain, Split, BadFilter, BadHead}
 use Rattle.block_flags.specs.declared.split.SplitFault.{SplitFault}
 use Rattle.block_flags.specs.declared.split.SplitFault.TheVariants as split
 use Rattle.manifest_reader.specs.declared.fault.ManifestFault.{ManifestFault}
 use Rattle.manifest_reader.specs.declared.fault.ManifestFault.TheVariants as manifest
 use Rattle.command_plan.specs.declared.input_fault.InputFault.{InputFault}
-use Rattle.command_plan.specs.declared.input_fault.InputFault.TheVariants.{Wave, Loop, Image, Track, FileLong, BlockLength, NoEntry, TooMuch}
+use Rattle.command_plan.specs.declared.input_fault.InputFault.TheVariants.{Wave, Loop, Image, Vag, Ima, Track, FileLong, BlockLength, NoEntry, TooMuch}
 
 -- a kind and its numbers
 unfoldable pub row : List ℕ → List ℕ → List LinePart
@@ -77,11 +83,42 @@ image_parts (image.BadEntry entry) = row (codes "BadEntry") (entry ∷ [])
 image_parts (image.BadLoopAddress entry) = row (codes "BadLoopAddress") (entry ∷ [])
 image_parts image.NoMemory = row (codes "NoMemory") []
 
+-- the faults of a VAG file
+abbrev pub vag_parts : VagFault → List LinePart
+vag_parts (vag.NameLong len) = row (codes "NameLong") (len ∷ [])
+vag_parts vag.NotVag = row (codes "NotVag") []
+vag_parts (vag.VagShort len) = row (codes "VagShort") (len ∷ [])
+vag_parts (vag.BadRate rate) = row (codes "BadRate") (rate ∷ [])
+vag_parts vag.NoMemory = row (codes "NoMemory") []
+
 -- the faults of blocks that do not split
 abbrev pub split_parts : SplitFault → List LinePart
 split_parts (split.Ragged len) = row (codes "Ragged") (len ∷ [])
 split_parts split.NoEnd = row (codes "NoEnd") []
 split_parts (split.NoLoopStart at) = row (codes "NoLoopStart") (at ∷ [])
+
+-- the faults of a block's head in IMA ADPCM, and whose head it is
+abbrev pub head_parts : ImaFault → List LinePart
+head_parts (head.BadIndex index) = row (codes "BadIndex") (index ∷ [])
+head_parts (head.BadReserved value) = row (codes "BadReserved") (value ∷ [])
+
+abbrev pub bad_head_parts : ℕ → ImaFault → List LinePart
+bad_head_parts block fault = row (codes "BadHead") (block ∷ []) ++ head_parts fault
+
+-- the faults of a WAVE file of IMA ADPCM; one that holds another prints nothing of its own
+abbrev pub ima_parts : ImaWaveFault → List LinePart
+ima_parts (ima.Walk fault) = wave_parts fault
+ima_parts ima.NoFmt = row (codes "NoFmt") []
+ima_parts (ima.BadFmt len) = row (codes "BadFmt") (len ∷ [])
+ima_parts (ima.NotIma tag) = row (codes "NotIma") (tag ∷ [])
+ima_parts (ima.BadChannels channels) = row (codes "BadChannels") (channels ∷ [])
+ima_parts (ima.BadRate rate) = row (codes "BadRate") (rate ∷ [])
+ima_parts (ima.BadBits bits) = row (codes "BadBits") (bits ∷ [])
+ima_parts (ima.BadAlign align) = row (codes "BadAlign") (align ∷ [])
+ima_parts ima.NoData = row (codes "NoData") []
+ima_parts (ima.BadHead block fault) = bad_head_parts block fault
+ima_parts (ima.Loop fault) = loop_parts fault
+ima_parts ima.NoMemory = row (codes "NoMemory") []
 
 -- the faults of a track
 abbrev pub track_parts : TrackFault → List LinePart
@@ -89,6 +126,7 @@ track_parts (NoEnd at) = row (codes "NoEnd") (at ∷ [])
 track_parts (BadAgain at) = row (codes "BadAgain") (at ∷ [])
 track_parts (Split fault) = split_parts fault
 track_parts (BadFilter block filter) = row (codes "BadFilter") (block ∷ filter ∷ [])
+track_parts (BadHead block fault) = bad_head_parts block fault
 
 -- the faults of a manifest
 abbrev pub manifest_parts : ManifestFault → List LinePart
@@ -110,6 +148,8 @@ abbrev pub input_parts : InputFault → List LinePart
 input_parts (Wave fault) = wave_parts fault
 input_parts (Loop fault) = loop_parts fault
 input_parts (Image fault) = image_parts fault
+input_parts (Vag fault) = vag_parts fault
+input_parts (Ima fault) = ima_parts fault
 input_parts (Track fault) = track_parts fault
 input_parts (FileLong most) = row (codes "FileLong") (most ∷ [])
 input_parts (BlockLength len) = row (codes "BlockLength") (len ∷ [])

@@ -1,10 +1,12 @@
 ghost use Rattle.std.specs.Prelude.{◌≡◌, ◌++◌, IfOk};
-ghost use Rattle.command_plan.specs.FaultWords.{wave_parts, loop_parts, fit_parts, image_parts, split_parts, track_parts, input_parts, range_row, manifest_parts};
+ghost use Rattle.command_plan.specs.FaultWords.{wave_parts, loop_parts, fit_parts, image_parts, vag_parts, split_parts, head_parts, bad_head_parts, ima_parts, track_parts, input_parts, range_row, manifest_parts};
 
 use crate::input_fault::InputFault;
 use crate::row::{with_number, with_row, with_text};
 use adpcm_nums::NoMemory;
 use block_flags::SplitFault;
+use ima_machine::ImaFault;
+use ima_wave::ImaWaveFault;
 use loop_fit::FitFault;
 use manifest_reader::ManifestFault;
 use player_model::TrackFault;
@@ -12,6 +14,7 @@ use report_text::LinePart;
 use smpl_loops::LoopFault;
 use snes_directory::ImageFault;
 use std::alloc::Global;
+use vag_writer::VagFault;
 use wave_form::WaveFault;
 
 /// The words of a fault in a WAVE file.
@@ -111,6 +114,23 @@ fn with_image(
     }
 }
 
+/// The words of a fault in a VAG file.
+fn with_vag(
+    alloc: Global,
+    parts: Vec<LinePart>,
+    fault: &VagFault,
+) -> Result<Vec<LinePart>, NoMemory>
+    ensures { IfOk result (λ all. all.items ≡ parts.items ++ vag_parts fault.now) }
+{
+    match fault {
+        VagFault::NameLong { len } => with_row(alloc, parts, "NameLong", &[*len]),
+        VagFault::NotVag => with_row(alloc, parts, "NotVag", &[]),
+        VagFault::VagShort { len } => with_row(alloc, parts, "VagShort", &[*len]),
+        VagFault::BadRate { rate } => with_row(alloc, parts, "BadRate", &[*rate]),
+        VagFault::NoMemory => with_row(alloc, parts, "NoMemory", &[]),
+    }
+}
+
 /// The words of a fault in blocks that do not split.
 fn with_split(
     alloc: Global,
@@ -123,6 +143,61 @@ fn with_split(
         SplitFault::Ragged { len } => with_row(alloc, parts, "Ragged", &[*len]),
         SplitFault::NoEnd => with_row(alloc, parts, "NoEnd", &[]),
         SplitFault::NoLoopStart { at } => with_row(alloc, parts, "NoLoopStart", &[*at]),
+    }
+}
+
+/// The words of a fault in the head of an IMA ADPCM block.
+fn with_head(
+    alloc: Global,
+    parts: Vec<LinePart>,
+    fault: &ImaFault,
+) -> Result<Vec<LinePart>, NoMemory>
+    ensures { IfOk result (λ all. all.items ≡ parts.items ++ head_parts fault.now) }
+{
+    match fault {
+        ImaFault::BadIndex { index } => with_row(alloc, parts, "BadIndex", &[u64::from(*index)]),
+        ImaFault::BadReserved { value } => {
+            with_row(alloc, parts, "BadReserved", &[u64::from(*value)])
+        }
+    }
+}
+
+/// The same behind the number of the block.
+fn with_bad_head(
+    alloc: Global,
+    parts: Vec<LinePart>,
+    block: u64,
+    fault: &ImaFault,
+) -> Result<Vec<LinePart>, NoMemory>
+    ensures { IfOk result (λ all. all.items ≡ parts.items ++ bad_head_parts block fault.now) }
+{
+    let parts = with_row(alloc, parts, "BadHead", &[block])?;
+    with_head(alloc, parts, fault)
+}
+
+/// The words of a fault in a WAVE file of IMA ADPCM.
+fn with_ima(
+    alloc: Global,
+    parts: Vec<LinePart>,
+    fault: &ImaWaveFault,
+) -> Result<Vec<LinePart>, NoMemory>
+    ensures { IfOk result (λ all. all.items ≡ parts.items ++ ima_parts fault.now) }
+{
+    match fault {
+        ImaWaveFault::Walk { fault } => with_wave(alloc, parts, fault),
+        ImaWaveFault::NoFmt => with_row(alloc, parts, "NoFmt", &[]),
+        ImaWaveFault::BadFmt { len } => with_row(alloc, parts, "BadFmt", &[*len]),
+        ImaWaveFault::NotIma { tag } => with_row(alloc, parts, "NotIma", &[*tag]),
+        ImaWaveFault::BadChannels { channels } => {
+            with_row(alloc, parts, "BadChannels", &[*channels])
+        }
+        ImaWaveFault::BadRate { rate } => with_row(alloc, parts, "BadRate", &[*rate]),
+        ImaWaveFault::BadBits { bits } => with_row(alloc, parts, "BadBits", &[*bits]),
+        ImaWaveFault::BadAlign { align } => with_row(alloc, parts, "BadAlign", &[*align]),
+        ImaWaveFault::NoData => with_row(alloc, parts, "NoData", &[]),
+        ImaWaveFault::BadHead { block, fault } => with_bad_head(alloc, parts, *block, fault),
+        ImaWaveFault::Loop { fault } => with_loop(alloc, parts, fault),
+        ImaWaveFault::NoMemory => with_row(alloc, parts, "NoMemory", &[]),
     }
 }
 
@@ -144,6 +219,9 @@ fn with_track(
             "BadFilter",
             &[u64::from(*block), u64::from(*filter)],
         ),
+        TrackFault::BadHead { block, fault } => {
+            with_bad_head(alloc, parts, u64::from(*block), fault)
+        }
     }
 }
 
@@ -159,6 +237,8 @@ pub(crate) fn with_input(
         InputFault::Wave { fault } => with_wave(alloc, parts, fault),
         InputFault::Loop { fault } => with_loop(alloc, parts, fault),
         InputFault::Image { fault } => with_image(alloc, parts, fault),
+        InputFault::Vag { fault } => with_vag(alloc, parts, fault),
+        InputFault::Ima { fault } => with_ima(alloc, parts, fault),
         InputFault::Track { fault } => with_track(alloc, parts, fault),
         InputFault::FileLong { most } => with_row(alloc, parts, "FileLong", &[*most]),
         InputFault::BlockLength { len } => with_row(alloc, parts, "BlockLength", &[*len]),

@@ -1,7 +1,9 @@
+use ima_wave::ImaWaveFault;
 use player_model::TrackFault;
 use smpl_loops::LoopFault;
 use snes_directory::ImageFault;
 use thiserror::Error;
+use vag_writer::VagFault;
 use wave_form::WaveFault;
 
 /// What is wrong with a fetched file.
@@ -24,6 +26,18 @@ pub enum InputFault {
     Image {
         /// The first fault of the image.
         fault: ImageFault,
+    },
+    /// It is no VAG file that can be read.
+    #[error("{fault}")]
+    Vag {
+        /// The first fault of the VAG file.
+        fault: VagFault,
+    },
+    /// It is no WAVE file of IMA ADPCM that can be read.
+    #[error("{fault}")]
+    Ima {
+        /// The first fault of the WAVE file of IMA ADPCM.
+        fault: ImaWaveFault,
     },
     /// Its blocks are no track.
     #[error("{fault}")]

@@ -5,7 +5,7 @@ use Rattle.std.specs.Str.{bytes_eq}
 use Rattle.toml.specs.Data.{Members}
 use Rattle.adpcm_nums.specs.Outcome.{◌>>=◌}
 use Rattle.machine_core.specs.declared.state.Kind.{Kind}
-use Rattle.machine_core.specs.declared.state.Kind.TheVariants.{Brr}
+use Rattle.machine_core.specs.declared.state.Kind.TheVariants.{Brr, Spu, Ima}
 use Rattle.loop_fit.specs.declared.rule.Length.{Length}
 use Rattle.loop_fit.specs.declared.rule.Length.TheVariants.{Exact, Unroll}
 use Rattle.loop_fit.specs.declared.rule.Start.{Start}
@@ -19,6 +19,8 @@ use Rattle.manifest_reader.specs.Keys.{text_at, needed_text, number_at}
 abbrev pub kind_word : List ℕ → Result Kind ManifestFault
 kind_word word =
     if bytes_eq word (codes "brr") then Ok Brr else
+    if bytes_eq word (codes "spu") then Ok Spu else
+    if bytes_eq word (codes "ima") then Ok Ima else
     Err (BadWord (codes "format"))
 
 -- the format of the bank

@@ -13,6 +13,14 @@ joined bank sample ending = bank ++ (codes "." ++ (sample ++ ending))
 abbrev pub first_pass_of : List ℕ → List ℕ → List ℕ
 first_pass_of bank sample = joined bank sample (codes ".first.wav")
 
+-- the VAG file of a sample
+abbrev pub vag_name_of : List ℕ → List ℕ → List ℕ
+vag_name_of bank sample = joined bank sample (codes ".vag")
+
+-- the WAVE file of the blocks of a sample of IMA ADPCM
+abbrev pub ima_name_of : List ℕ → List ℕ → List ℕ
+ima_name_of bank sample = joined bank sample (codes ".wav")
+
 -- the ending of the file that holds the blocks of a sample alone
 abbrev pub blocks_endings : Kind → List (List ℕ)
 blocks_endings Brr = []

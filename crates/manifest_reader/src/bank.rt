@@ -21,6 +21,8 @@ pub(crate) fn kind_at(alloc: Global, table: &Table) -> Result<Kind, ManifestFaul
 {
     match needed_text(alloc, table, "format")? {
         "brr" => Ok(Kind::Brr),
+        "spu" => Ok(Kind::Spu),
+        "ima" => Ok(Kind::Ima),
         _ => Err(bad_word(alloc, "format")),
     }
 }

@@ -1,5 +1,5 @@
 ghost use Rattle.std.specs.Prelude.{◌≡◌, ◌++◌, ◌∷◌, [], map, IfOk};
-ghost use Rattle.manifest_reader.specs.Stored.{joined, first_pass_of, blocks_endings, reserved_endings, reserved_names};
+ghost use Rattle.manifest_reader.specs.Stored.{joined, first_pass_of, vag_name_of, ima_name_of, blocks_endings, reserved_endings, reserved_names};
 
 use crate::manifest::SampleEntry;
 use adpcm_nums::{NoMemory, Text};
@@ -22,6 +22,20 @@ pub fn first_pass_name(alloc: Global, bank: &str, sample: &str) -> Result<Text, 
     ensures { IfOk result (λ name. name ≡ first_pass_of bank.now sample.now) }
 {
     joined(alloc, bank, sample, ".first.wav")
+}
+
+/// The name of the VAG file of a sample: `BANK.SAMPLE.vag` (this project's own choice).
+pub fn vag_name(alloc: Global, bank: &str, sample: &str) -> Result<Text, NoMemory>
+    ensures { IfOk result (λ name. name ≡ vag_name_of bank.now sample.now) }
+{
+    joined(alloc, bank, sample, ".vag")
+}
+
+/// The name of the WAVE file of the blocks of a sample of IMA ADPCM: `BANK.SAMPLE.wav` (this project's own choice).
+pub fn ima_name(alloc: Global, bank: &str, sample: &str) -> Result<Text, NoMemory>
+    ensures { IfOk result (λ name. name ≡ ima_name_of bank.now sample.now) }
+{
+    joined(alloc, bank, sample, ".wav")
 }
 
 /// Adds the name of a file of a sample.

@@ -7,7 +7,7 @@ NotToml | format
 NotToml | bank = 'b'; bank = 'b'
 WrongKind format | format = 1; sample = 1
 BadWord format | format = 'BRR'
-BadWord format | format = 'spu'
+MissingKey bank | format = 'ima'
 MissingKey bank | format = 'brr'
 WrongKind bank | format = 'brr'; bank = 1
 BadWord bank | format = 'brr'; bank = ''

@@ -39,8 +39,9 @@ none | file = 'b.s.wav'
 Clash b.s.first.wav | file = 'b.s.first.wav'
 Clash b.s.cert | file = 'b.s.cert'";
 
-const OWN: &str =
-    "Clash m.toml | format = 'brr'; bank = 'm.toml'; [[sample]]; name = 's'; file = 's.wav'";
+const OWN: &str = "\
+Clash m.toml | format = 'brr'; bank = 'm.toml'; [[sample]]; name = 's'; file = 's.wav'
+Clash b.s.wav | format = 'ima'; bank = 'b'; [[sample]]; name = 's'; file = 'b.s.wav'";
 
 #[test]
 fn refuses_samples(rt: HostRuntime) -> Result<(), Fail> {

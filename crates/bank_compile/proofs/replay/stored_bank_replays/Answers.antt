@@ -1,4 +1,4 @@
-use Rattle.bank_compile.proofs.Replaying.{bank-replays}
+use Rattle.bank_compile.proofs.BankReplays.{bank-replays}
 use Rattle.bank_compile.proofs.replay.stored_bank_replays.Goals as goal
 
 pub returns : goal.returns

@@ -12,10 +12,10 @@ push_block-requires-clause-fits g c =
 
 pub push_block-requires-clause-flags : goal.push_block-requires-clause-flags
 push_block-requires-clause-flags g c =
-    let kind : c.kind.result ≡ (g.C.Encode.format c.args.codec.now).kind = c.kind.ensures ∙ sym (g.met.C.Encode.encodes c.args.codec.now).kind_is in
-    rw (c.flagged-flags.ensures, kind) (flags_fit (g.C.Encode.format c.args.codec.now).kind c.args.b c.args.blocks c.args.loop_block)
+    let kind : c.kind.result ≡ (g.C.Stored.format c.args.codec.now).kind = c.kind.ensures ∙ sym (g.met.C.Stored.stored c.args.codec.now).kind_is in
+    rw (c.written_flags-flags.ensures, kind) (flags_fit (g.C.Stored.format c.args.codec.now).kind c.args.b c.args.blocks c.args.loop_block)
 
 pub returns : goal.returns
 returns g c =
-    let kind : c.kind.result ≡ (g.C.Encode.format c.args.codec.now).kind = c.kind.ensures ∙ sym (g.met.C.Encode.encodes c.args.codec.now).kind_is in
-    rw (c.flagged-flags.ensures, kind, c.as_slice.ensures, c.as_slice-2.ensures, c.block_samples-samples.ensures) at c.push_block.ensures
+    let kind : c.kind.result ≡ (g.C.Stored.format c.args.codec.now).kind = c.kind.ensures ∙ sym (g.met.C.Stored.stored c.args.codec.now).kind_is in
+    rw (c.written_flags-flags.ensures, kind, c.as_slice.ensures, c.as_slice-2.ensures, c.block_samples-samples.ensures) at c.push_block.ensures

@@ -3,7 +3,11 @@ use Rattle.command_plan.specs.Reading.{writing_course}
 use Rattle.command_plan.proofs.Promised.{ends_early, ends_short}
 use Rattle.bank_tool.specs.Compile.{sources_reading, bank_names, bank_choice}
 use Rattle.bank_tool.proofs.CompileSteps.{stored_bank}
+use Rattle.bank_tool.proofs.SourceSteps.{align_is}
 use Rattle.bank_tool.proofs.compile.come_bank.Goals as goal
+
+pub form_bank-requires-clause-block : goal.form_bank-requires-clause-block
+form_bank-requires-clause-block g c = align_is c.args.manifest.now.block c.requires.ranges.block
 
 pub returns-in-Err-clause-told : goal.returns-in-Err-clause-told
 returns-in-Err-clause-told g c = λ files told.

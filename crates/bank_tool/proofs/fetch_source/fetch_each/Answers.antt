@@ -11,14 +11,14 @@ use Rattle.command_plan.proofs.ReadEach.{reads_none, reads_more, each_halts, eac
 use Rattle.bank_tool.specs.declared.source.Source.{Source}
 use Rattle.bank_tool.specs.Compile.{source_in, source_reading}
 use Rattle.bank_tool.proofs.SourceSteps.{each_zip, zip_none, zip_more, count_more, alike_more}
-use Rattle.bank_tool.specs.Ready.{IsReady}
+use Rattle.bank_tool.specs.Ready.{IsReadyBy}
 use Rattle.bank_tool.proofs.fetch_source.fetch_each.Goals as goal
 
 pub loop-entry-init : goal.loop-entry-init
 loop-entry-init g c = record {
   count = ap length c.new-sources.ensures.items;
   named = ap (map (λ (s : Source). s.name)) c.new-sources.ensures.items;
-  ready = subst (λ (ss : List Source). All IsReady ss) (sym c.new-sources.ensures.items) (λ k d h. absurd (omega (arith, h)));
+  ready = subst (λ (ss : List Source). All (IsReadyBy c.args.rule) ss) (sym c.new-sources.ensures.items) (λ k d h. absurd (omega (arith, h)));
   later = omega arith;
   told = λ files told. (reads_none (source_reading files c.args.rule) (g.H.Host.world c.args.host.now), zip_none (λ e s. source_in files c.args.rule e ≡ Ok s) c.new-sources.result.items c.new-sources.ensures.items);
 }
@@ -45,7 +45,7 @@ loop-entry-preserved g c =
     record {
       count = count_more c.loop-entry.sources.items c.push.new.self.items c.loop-entry.entry-index c.in_ok-source.source c.in-Ok.ensures.items c.loop-entry.invariant.count;
       named = alike_more (λ (s : Source). s.name) (λ (e : SampleEntry). e.name) c.args.entries.now c.loop-entry.sources.items c.push.new.self.items c.loop-entry.entry-index c.entry-item.result c.in_ok-source.source at c.in-Ok.ensures.items c.loop-entry.invariant.named c.in_ok-source.ensures.named;
-      ready = subst (λ (ss : List Source). All IsReady ss) (sym c.in-Ok.ensures.items) (All-push IsReady c.loop-entry.sources.items c.in_ok-source.source c.loop-entry.invariant.ready c.in_ok-source.ensures.ready);
+      ready = subst (λ (ss : List Source). All (IsReadyBy c.args.rule) ss) (sym c.in-Ok.ensures.items) (All-push (IsReadyBy c.args.rule) c.loop-entry.sources.items c.in_ok-source.source c.loop-entry.invariant.ready c.in_ok-source.ensures.ready);
       later = let x = c.loop-entry.invariant.later in let y = c.fetch_source.ensures.keeps.later in omega arith;
       told = λ files told.
           let before = c.loop-entry.invariant.told files told in

@@ -5,18 +5,18 @@ use Rattle.bank_tool.proofs.play.come_play.Goals as goal
 
 pub returns-in-Err-clause-told : goal.returns-in-Err-clause-told
 returns-in-Err-clause-told g c = λ files told.
-    ends_early (play_reading files c.args.file.now c.args.entry c.args.count) (saying c.args.count) (IsPlayed (said_in files c.args.file.now c.args.entry c.args.count))
+    ends_early (play_reading files c.args.kind c.args.file.now c.args.entry c.args.count) (saying c.args.count) (IsPlayed (said_in files c.args.kind c.args.file.now c.args.entry c.args.count))
     (g.H.Host.world c.args.host.now) (g.H.Host.world c.fetch_outputs.new.host) c.in-Err.status (c.in-Err.ensures.told files told)
 
 pub returns-then-count-eq0-clause-told : goal.returns-then-count-eq0-clause-told
 returns-then-count-eq0-clause-told g c = λ files told.
     let got = c.in-Ok.ensures.told files told in
-    plays_none files c.args.file.now c.args.entry c.args.count c.in-Ok.lines (g.H.Host.world c.args.host.now) (g.H.Host.world c.fetch_outputs.new.host)
+    plays_none files c.args.kind c.args.file.now c.args.entry c.args.count c.in-Ok.lines (g.H.Host.world c.args.host.now) (g.H.Host.world c.fetch_outputs.new.host)
     c.if-count-eq0.true got.0 got.1
 
 pub returns-clause-told : goal.returns-clause-told
 returns-clause-told g c = λ files told.
     let got = c.in-Ok.ensures.told files told in
-    plays_some files c.args.file.now c.args.entry c.args.count c.in-Ok.lines c.as_str.result.now
+    plays_some files c.args.kind c.args.file.now c.args.entry c.args.count c.in-Ok.lines c.as_str.result.now
     (g.H.Host.world c.args.host.now) (g.H.Host.world c.fetch_outputs.new.host) (g.H.Host.world c.write_out.new.host) c.write_out.result
     c.if-count-eq0.false got.0 got.1 c.as_str.ensures c.write_out.ensures.told

@@ -8,16 +8,16 @@ returns-in-Err-clause-told g c = λ files told. short_for_words _ _ (g.H.Host.wo
 
 pub returns-in-Ok-None-clause-told : goal.returns-in-Ok-None-clause-told
 returns-in-Ok-None-clause-told g c = λ files told.
-    no_command _ files (g.H.Host.world c.args.host.now) (g.H.Host.world c.finish.new.host) c.finish.result (sym c.in-Ok-None.ensures.value ∙ c.in-Ok-None.field-0-is) c.finish.ensures
+    no_command _ files (g.H.Host.world c.args.host.now) (g.H.Host.world c.finish.new.host) c.finish.result (sym c.in-Ok-None.ensures ∙ c.in-Ok-None.field-0-is) c.finish.ensures
 
 pub returns-in-Ok-Some-clause-block : goal.returns-in-Ok-Some-clause-block
 returns-in-Ok-Some-clause-block g c = λ files input output told is.
-    block_answers (Some c.in-Ok-Some.command) files input output (g.H.Host.world c.args.host.now) (g.H.Host.world c.obey.new.host) c.obey.result (sym c.in-Ok-Some.field-0-is ∙ c.in-Ok-Some.ensures.value ∙ is) (c.obey.ensures.told files told)
+    block_answers (Some c.in-Ok-Some.command) files input output (g.H.Host.world c.args.host.now) (g.H.Host.world c.obey.new.host) c.obey.result (sym c.in-Ok-Some.field-0-is ∙ c.in-Ok-Some.ensures ∙ is) (c.obey.ensures.told files told)
 
 pub returns-in-Ok-Some-clause-compile : goal.returns-in-Ok-Some-clause-compile
 returns-in-Ok-Some-clause-compile g c = λ files manifest told is.
-    compile_answers (Some c.in-Ok-Some.command) files manifest (g.H.Host.world c.args.host.now) (g.H.Host.world c.obey.new.host) c.obey.result told (sym c.in-Ok-Some.field-0-is ∙ c.in-Ok-Some.ensures.value ∙ is) (c.obey.ensures.told files told)
+    compile_answers (Some c.in-Ok-Some.command) files manifest (g.H.Host.world c.args.host.now) (g.H.Host.world c.obey.new.host) c.obey.result told (sym c.in-Ok-Some.field-0-is ∙ c.in-Ok-Some.ensures ∙ is) (c.obey.ensures.told files told)
 
 pub returns-in-Ok-Some-clause-play : goal.returns-in-Ok-Some-clause-play
 returns-in-Ok-Some-clause-play g c = λ files kind file entry count told is.
-    play_answers (Some c.in-Ok-Some.command) files kind file entry count (g.H.Host.world c.args.host.now) (g.H.Host.world c.obey.new.host) c.obey.result (sym c.in-Ok-Some.field-0-is ∙ c.in-Ok-Some.ensures.value ∙ is) (c.obey.ensures.told files told)
+    play_answers (Some c.in-Ok-Some.command) files kind file entry count (g.H.Host.world c.args.host.now) (g.H.Host.world c.obey.new.host) c.obey.result (sym c.in-Ok-Some.field-0-is ∙ c.in-Ok-Some.ensures ∙ is) (c.obey.ensures.told files told)

@@ -76,7 +76,8 @@ def first_pass_name(bank, name):
 def refuse_clash(manifest, own):
     """Refuses a source, or the manifest's own name, that the bank itself would store."""
     bank, entries = manifest["bank"], manifest["samples"]
-    stored = {bank}
+    ending = {"spu": "vag", "ima": "wav"}.get(manifest["format"])
+    stored = {f"{bank}.{entry['name']}.{ending}" for entry in entries} if ending else {bank}
     for entry in entries:
         stored |= {first_pass_name(bank, entry["name"]), f"{bank}.{entry['name']}.cert"}
     for name in [entry["file"] for entry in entries] + [own]:
@@ -99,7 +100,7 @@ def read(data, own):
     table = read_toml(data)
     refuse_unknown(table, ("format", "bank", "base", "block", "beam", "budget", "length", "start", "sample"))
     manifest = {
-        "format": read_key(table, "format", str, lambda word: word == "brr"),
+        "format": read_key(table, "format", str, lambda word: word in ("brr", "spu", "ima")),
         "bank": read_key(table, "bank", str, lambda bank: re.fullmatch("[A-Za-z0-9][A-Za-z0-9_.-]{0,63}", bank)),
         "base": read_key(table, "base", int, lambda base: base in range(0, 65281, 256), 512),
         "block": read_key(table, "block", int, lambda block: block in range(8, 1025, 4), 256),

@@ -1,77 +1,23 @@
-"""A plain compiler of BRR banks: what a run of `adbank compile` over some files must say, store and answer.
+"""Banks of BRR, plainly: the blocks of a sample, its bound, and the image of a bank.
 
-The rules are those of docs/FORMATS.md; nothing here is shared with the program.
+The rules are those of docs/FORMATS.md; nothing here is shared with the program. plain_compiler.py makes banks with it.
 """
 
 import bisect
-import contextlib
 import functools
 import math
 import random
 import struct
-from typing import NamedTuple
 
 import brr
-import bank_manifest
-import wave_file
-from bank_manifest import first_pass_name
 from brr_floors import own_floors
 from wave_file import Refused
 from window_floor import BRR
 
-MOST_SOURCE, MOST_BLOCKS = 4194304, 4096
-
-
-class Outcome(NamedTuple):
-    """How a run ends: its status, what it says, and files by name."""
-
-    status: int
-    said: bytes
-    files: dict
-
-
-class Fault(Exception):
-    """What ends a compilation: the status, and the words of the line after it."""
-
-
-@contextlib.contextmanager
-def told_as(status, about):
-    """What is refused inside ends the compilation with this status, and is about this."""
-    try:
-        yield
-    except Refused as refused:
-        raise Fault(status, about, *refused.args) from refused
-
-
-# Fitting
-
-
-def refuse_long(blocks):
-    """Refuses more blocks than a sample may have."""
-    if blocks > MOST_BLOCKS:
-        raise Refused("TooLong", blocks)
-
-
-def fit(frames, loop, length, start):
-    """The targets of whole blocks, and the block where the loop begins or None."""
-    if not frames:
-        raise Refused("EmptySample")
-    if loop is None:
-        padding = -len(frames) % 16
-        refuse_long((len(frames) + padding) // 16)
-        return frames + [0] * padding, None
-    first, last = loop
-    period = last - first + 1
-    if length == "exact" and period % 16:
-        raise Refused("LoopLength", period, 16)
-    turns = 16 // math.gcd(period, 16)
-    late = -first % 16
-    blocks = (first + late + turns * period) // 16
-    refuse_long(blocks)
-    zeros = late if start == "front" else 0
-    places = range(16 * blocks - zeros)
-    sound = [frames[i if i <= last else first + (i - first) % period] for i in places]
-    return [0] * zeros + sound, (first + late) // 16
+# Samples in a block, what an output is multiplied by, and what an output costs beside a target.
+SIZE, SCALE, cost = 16, 2, brr.cost
+# A loop lies on whole blocks, and all their outputs are played.
+IN_FRAMES = False
 
 
 # Choosing blocks
@@ -182,97 +128,27 @@ def check_floors():
             assert head_floor(head, targets) == sum(own_floors(head, targets)), (head, targets)
 
 
-# Banks
+# The image
 
 
-class Sample(NamedTuple):
-    """One sample of a bank, fitted."""
-
-    name: str
-    rate: int
-    targets: list
-    loop_block: int | None
-
-
-def fetch(files, name):
-    """A file's bytes."""
-    if name not in files:
-        raise Fault(8, "fetch", name)
-    return files[name]
-
-
-def read_sample(files, manifest, entry):
-    """Fetches, reads and fits one sample."""
-    data = fetch(files, entry["file"])
-    with told_as(4, entry["name"]):
-        if len(data) > MOST_SOURCE:
-            raise Refused("FileLong", MOST_SOURCE)
-        rate, frames, sampler = wave_file.read(data, entry["channel"])
-        loop = wave_file.first_loop(sampler, len(frames)) if entry["loop"] == "smpl" else None
-    with told_as(5, entry["name"]):
-        targets, loop_block = fit(frames, loop, manifest["length"], manifest["start"])
-    return Sample(entry["name"], rate, targets, loop_block)
-
-
-def lay_out(manifest, found):
-    """The first address of each sample; refuses a bank that passes the memory's end."""
-    at, starts = manifest["base"] + 4 * len(found), []
-    for sample in found:
-        starts.append(at)
-        at += 9 * (len(sample.targets) // 16)
+def refuse_full(manifest, found):
+    """Refuses a bank that passes the memory's end."""
+    at = manifest["base"] + 4 * len(found) + 9 * sum(len(sample.targets) // SIZE for sample in found)
     if at > 65536:
-        raise Fault(6, manifest["bank"], "ImageFull", at)
-    return starts
+        raise Refused("ImageFull", at)
 
 
-def image(base, found, starts, blocks):
-    """The image of some samples, which have these addresses and blocks."""
-    memory = b""
-    for sample, start in zip(found, starts):
+def image(base, found, bodies):
+    """The image of some samples, which have these blocks."""
+    memory, start = b"", base + 4 * len(found)
+    for sample, body in zip(found, bodies):
         memory += struct.pack("<HH", start, start + 9 * (sample.loop_block or 0))
-    memory += b"".join(blocks)
+        start += len(body)
+    memory += b"".join(bodies)
     header = b"SNBI" + struct.pack("<HHII", 1, len(found), base, len(memory))
     return header + struct.pack("<%dI" % len(found), *(sample.rate for sample in found)) + memory
 
 
-def sample_line(sample, error):
-    """The line of one sample in the report."""
-    floor = bound(sample.targets, sample.loop_block)
-    loop = "none" if sample.loop_block is None else sample.loop_block
-    segments = 2 if sample.loop_block else 1
-    line = f"sample {sample.name} blocks {len(sample.targets) // 16} loop {loop} error {error} bound {floor}"
-    line += f" gap {error - floor} levels 0 0 0 {segments}"
-    return line + (" optimal\n" if error == floor else "\n")
-
-
-def first_pass(sample, outputs):
-    """The file of a sample's first pass."""
-    loop = None if sample.loop_block is None else (16 * sample.loop_block, len(outputs) - 1)
-    return wave_file.write([2 * out for out in outputs], sample.rate, loop)
-
-
-def form_bank(files, own):
-    """The files that a bank stores, and its report."""
-    data = fetch(files, own)
-    with told_as(3, "manifest"):
-        manifest = bank_manifest.read(data, own)
-    found = [read_sample(files, manifest, entry) for entry in manifest["samples"]]
-    starts = lay_out(manifest, found)
-    stored, blocks, report = {}, [], ""
-    for sample in found:
-        body, outputs = encode(sample.targets, sample.loop_block)
-        blocks.append(body)
-        stored[first_pass_name(manifest["bank"], sample.name)] = first_pass(sample, outputs)
-        report += sample_line(sample, sum(map(brr.cost, outputs, sample.targets)))
-    stored[manifest["bank"]] = image(manifest["base"], found, starts, blocks)
-    return stored, report + f"done {len(found)} samples {len(stored)} files\n"
-
-
-def compile_bank(files, own):
-    """How a compilation of the manifest `own` among these files must end."""
-    try:
-        stored, report = form_bank(files, own)
-    except Fault as fault:
-        line = " ".join(["fault", *map(str, fault.args)]) + "\n"
-        return Outcome(fault.args[0], line.encode(), files)
-    return Outcome(0, report.encode(), {**files, **stored})
+def block_files(manifest, found, bodies):
+    """The files that hold the blocks, by name."""
+    return {manifest["bank"]: image(manifest["base"], found, bodies)}

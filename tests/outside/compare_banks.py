@@ -1,5 +1,5 @@
 #!/usr/bin/env python3
-"""How `adbank compile` compares with the plain compiler of brr_bank.py.
+"""How `adbank compile` compares with the plain compiler of plain_compiler.py.
 
     compare_banks.py PROGRAM [MANIFEST..]
 
@@ -17,7 +17,9 @@ import time
 
 import bank_manifest
 import seeded_banks
-from brr_bank import Outcome, check_floors, compile_bank
+import brr_bank
+import spu_bank
+from plain_compiler import Outcome, compile_bank
 from seeded_banks import Bank
 
 EXAMPLES = pathlib.Path(__file__).resolve().parents[2] / "examples"
@@ -92,7 +94,8 @@ def main(words):
     if not os.path.exists(program):
         sys.exit(f"compare_banks: there is no program {program}")
     begin = time.monotonic()
-    check_floors()
+    brr_bank.check_floors()
+    spu_bank.check_floors()
     banks = banks_at([pathlib.Path(word) for word in words[1:]])
     differing = compare(program, banks)
     print(f"{len(banks)} banks, {differing} differ, {time.monotonic() - begin:.0f} seconds")

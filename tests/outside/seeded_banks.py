@@ -132,9 +132,9 @@ def wave(sounds, bits=16, rate=RATE, loop=None, rng=None):
 # Banks that fit
 
 
-def any_loop(rng, frames, exact):
+def any_loop(rng, frames, exact, size):
     """A loop of few blocks in so many frames, whole blocks where it must be exact; None where there is no room."""
-    period = 16 * rng.randrange(1, 8)
+    period = size * rng.randrange(1, 8)
     if not exact:
         period = rng.choice((period, 4 * rng.randrange(1, 16), rng.randrange(1, 24)))
     if period > frames:
@@ -143,12 +143,12 @@ def any_loop(rng, frames, exact):
     return first, first + period - 1
 
 
-def any_sample(rng, name, exact):
-    """The manifest's lines of a sample, and its file."""
+def any_sample(rng, name, exact, size):
+    """The manifest's lines of a sample, and its file, for blocks of so many samples."""
     frames = rng.choice((rng.randrange(1, 20), rng.randrange(10, 90), rng.randrange(60, 350)))
     stereo = rng.randrange(3) == 0
     sounds = [rng.choice(SOUNDS)(rng, frames) for _ in range(1 + stereo)]
-    loop = any_loop(rng, frames, exact) if rng.randrange(3) else None
+    loop = any_loop(rng, frames, exact, size) if rng.randrange(3) else None
     keys = {
         "name": name,
         "file": name + ".wav",
@@ -158,26 +158,27 @@ def any_sample(rng, name, exact):
     return keys, wave(sounds, rng.choice((8, 16, 16)), rng.choice((1, 8000, 32000, 44100, 1000000)), loop, rng)
 
 
-def fitting_bank(number):
-    """A bank of a few samples that is not refused."""
+def fitting_bank(number, form="brr", size=16, align=None):
+    """A bank of a few samples in a format with blocks of this size that is not refused; `align` is the manifest's block."""
     rng = random.Random(number)
     length = rng.choice((None, "exact", "unroll", "unroll"))
     files, samples = {}, []
     for at in range(rng.choice((1, 2, 3, 4))):
-        keys, data = any_sample(rng, f"{rng.choice(('s', 'Hit-', '_', '0'))}{at}", length != "unroll")
+        keys, data = any_sample(rng, f"{rng.choice(('s', 'Hit-', '_', '0'))}{at}", length != "unroll", size)
         samples.append(keys)
         files[keys["file"]] = data
     files[OWN] = manifest(
         samples,
+        format=form,
         bank=rng.choice(("x.img", "0", "B_a-n.k")),
         base=rng.choice((None, 0, 256, 32768)),
-        block=rng.choice((None, 8)),
+        block=align or rng.choice((None, 8)),
         beam=rng.choice((None, 1, 64)),
         budget=rng.choice((None, 0)),
         length=length,
         start=rng.choice((None, "front", "rotate")),
     )
-    return Bank(f"seed {number}", files, OWN, "sample ")
+    return Bank(f"{form} seed {number}", files, OWN, "sample ")
 
 
 # The second block is best under shift 13 and filter 2, or 3: each step of least cost leads the shifts below it astray.
@@ -220,6 +221,26 @@ def edges():
     many = {name: wave([[at * 512 - 16384] * (at // 4 + 1)], loop=(0, at // 4)) for at, name in enumerate(names)}
     samples = [{"name": name, "file": name} for name in names]
     yield edge("64 samples", "sample 00 blocks 1 loop 0", many, samples, length="unroll")
+
+
+def spu_edges():
+    """Banks of SPU-ADPCM at the edges of what is taken."""
+    once, again = "sample s blocks 1 loop none error", "sample s blocks 1 loop 0 error"
+    yield edge("spu, loudest", f"{once} 469532700 bound 469532700 gap 0", {"s.wav": wave([[32767] * 28])}, format="spu")
+    yield edge("spu, one frame", f"{again} 0 bound 0", {"s.wav": wave([[0]], loop=(0, 0))}, format="spu", length="unroll")
+    yield edge("spu, source of the bank's name", once, {"x.img": wave([RAMP[:28]])}, ({**ONE, "file": "x.img"},), format="spu")
+    long = "sample s blocks 40 loop none"
+    yield edge("spu, beyond the SNES's memory", long, {"s.wav": wave([[0] * 1120])}, format="spu", base=65280)
+
+
+def ima_edges():
+    """Banks of IMA ADPCM at the edges of what is taken."""
+    once = "sample s blocks 1 loop none error 0 bound 0"
+    yield edge("ima, one frame of a block of 505", once, {"s.wav": wave([[0]])}, format="ima")
+    yield edge("ima, block 1024", "sample s blocks 1 loop 3..39", {"s.wav": wave([RAMP], loop=(3, 39))}, format="ima", block=1024)
+    far = {"s.wav": wave([[9] * 36864], 8, loop=(36863, 36863))}
+    yield edge("ima, 4096 blocks", "sample s blocks 4096 loop 36863..36863", far, format="ima", block=8)
+    yield edge("ima, frames after the loop", "sample s blocks 5 loop 2..4", {"s.wav": wave([RAMP], loop=(2, 4))}, format="ima", block=8)
 
 
 # Banks that are refused
@@ -289,6 +310,12 @@ def refused_manifests():
     for file in ("x.img", "x.img.s.first.wav", "x.img.s.cert"):
         yield bad_sample_key("Clash " + file, file=file)
     yield bad_key("Clash " + OWN, bank=OWN)
+    for file in ("x.img.s.vag", "x.img.s.first.wav", "x.img.s.cert"):
+        yield bad_key("Clash " + file, ({**ONE, "file": file},), format="spu")
+    yield bad_key("OutOfRange base 100", format="spu", base=100)
+    for file in ("x.img.s.wav", "x.img.s.first.wav", "x.img.s.cert"):
+        yield bad_key("Clash " + file, ({**ONE, "file": file},), format="ima")
+    yield bad_key("OutOfRange block 1028", format="ima", block=1028)
 
 
 def refused_waves():
@@ -336,6 +363,10 @@ def refused_fits():
     yield bad_source("fault 5 s TooLong 4097", wave([[0] * 65537], 8))
     for start in ("front", "rotate"):
         yield bad_source("fault 5 s TooLong 4098", wave([[0] * 4102], **far), length="unroll", start=start)
+    yield bad_source("fault 5 s LoopLength 27 28", wave([[9] * 60], loop=(3, 29)), format="spu")
+    yield bad_source("fault 5 s TooLong 4097", wave([[0] * 114689], 8), format="spu")
+    yield bad_source("fault 5 s TooLong 4097", wave([[0] * 36865], 8), format="ima", block=8)
+    yield bad_source("fault 5 s TooLong 520", wave([[0] * 262145], 8), format="ima")
     yield refused("fault 6 x.img ImageFull 65545", {"s.wav": wave([[0] * 449])}, base=65280)
     yield refused("fault 8 fetch gone.wav", samples=(ONE, {"name": "t", "file": "gone.wav"}))
     two = (ONE, {"name": "t", "file": "t.wav"})
@@ -345,5 +376,7 @@ def refused_fits():
 
 def banks():
     """All banks."""
-    found = [fitting_bank(number) for number in range(160)]
-    return found + [*edges(), *refused_manifests(), *refused_waves(), *refused_loops(), *refused_fits()]
+    found = [fitting_bank(number) for number in range(160)] + [fitting_bank(number, "spu", 28) for number in range(500, 560)]
+    for number, align in enumerate((8, 8, 8, 12, 12, 16, 20, 28, 36) * 3 + (256,), 700):
+        found.append(fitting_bank(number, "ima", 1, align))
+    return found + [*edges(), *spu_edges(), *ima_edges(), *refused_manifests(), *refused_waves(), *refused_loops(), *refused_fits()]

@@ -75,7 +75,7 @@ class Install(unittest.TestCase):
         text = (ROOT / "adbank.1").read_text()
         for key in ("format", "bank", "base", "length", "start", "name", "file", "channel", "loop"):
             self.assertIn(f"\n.It Ic {key}\n", text)
-        self.assertIn("\n.It Ic block , beam , budget\n", text)
+        self.assertIn("\n.It Ic beam , budget\n", text)
         statuses = text.split(".Sh EXIT STATUS")[1].split(".Sh")[0]
         self.assertEqual([line[4:] for line in statuses.splitlines() if line.startswith(".It ")], list("012345689"))
 
@@ -95,9 +95,10 @@ class Install(unittest.TestCase):
         self.assertEqual(self.offers("c"), ["compile"])
         self.assertEqual(self.offers("compile", ""), ["a b", "my bank.toml", "x.toml"])
         self.assertEqual(self.offers("compile", "a b/"), ["a b/y.toml"])
-        self.assertEqual(self.offers("play", ""), ["brr"])
+        self.assertEqual(self.offers("play", ""), ["brr", "ima", "vag"])
         self.assertEqual(self.offers("play", "brr", "x"), ["x.img", "x.toml", "x.wav"])
         self.assertEqual(self.offers("play", "brr", "x.img", ""), ["0", "1", "2"])
+        self.assertEqual(self.offers("play", "vag", "x.wav", ""), ["0"])
         self.assertEqual(self.offers("play", "brr", "gone", ""), [""])
         self.assertEqual(self.offers("play", "brr", "x.img", "0", ""), [""])
         self.assertEqual(self.offers("block", "x.w"), ["x.wav"])

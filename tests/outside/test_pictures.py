@@ -23,6 +23,7 @@ import xml.etree.ElementTree as tree
 import bank_manifest
 import brr
 import brr_bank
+import plain_compiler
 import wave_file
 
 ROOT = pathlib.Path(__file__).resolve().parents[2]
@@ -82,7 +83,7 @@ class Found:
         entry = settings["samples"][place]
         _, frames, sampler = wave_file.read((folder / entry["file"]).read_bytes(), entry["channel"])
         loop = wave_file.first_loop(sampler, len(frames)) if entry["loop"] == "smpl" else None
-        self.first, self.loop_block = brr_bank.fit(frames, loop, settings["length"], settings["start"])
+        self.first, self.loop_block = plain_compiler.fit(frames, loop, settings["length"], settings["start"], 16)
         self.outputs = [2 * out for out in decoded(folder / settings["bank"], place, len(self.first) // 16)]
         self.errors = [(out - target) ** 2 for out, target in zip(self.outputs, self.first)]
         self.bound = brr_bank.bound(self.first, self.loop_block)

@@ -12,10 +12,10 @@ _adbank() {
         1,*) mapfile -t COMPREPLY < <(compgen -W 'compile play block' -- "$word") ;;
         2,compile) _adbank_files -f -X '!*.toml' -o plusdirs -- "$word" ;;
         2,block | 3,block | 3,play) _adbank_files -f -- "$word" ;;
-        2,play) mapfile -t COMPREPLY < <(compgen -W brr -- "$word") ;;
+        2,play) mapfile -t COMPREPLY < <(compgen -W 'brr vag ima' -- "$word") ;;
         4,play)
-            # an image tells how many entries it has
-            entries=$(od -An -v -t u1 -j 6 -N 1 -- "${COMP_WORDS[3]}" 2>/dev/null)
+            # an image tells how many entries it has; other files have one
+            if [[ ${COMP_WORDS[2]} != brr ]]; then entries=1; else entries=$(od -An -v -t u1 -j 6 -N 1 -- "${COMP_WORDS[3]}" 2>/dev/null); fi
             [[ -z $entries ]] || mapfile -t COMPREPLY < <(compgen -W "$(seq 0 $((entries - 1)))" -- "$word")
             ;;
     esac

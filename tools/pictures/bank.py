@@ -67,6 +67,8 @@ def compiled(program, manifest):
         raise Trouble("Python 3.11 or later is needed to read manifests")
     report = run(program, "compile", manifest)
     settings = tomllib.loads(pathlib.Path(manifest).read_text(encoding="utf-8"))
+    if settings["format"] != "brr":
+        raise Trouble("pictures are drawn of banks of BRR alone so far")
     if len(report) != len(settings["sample"]) + 1 or not all(map(LINE.fullmatch, report[:-1])):
         raise Trouble(f"this is no report of a bank: {report}")
     return [sample(program, settings, entry, line) for entry, line in enumerate(report[:-1])]

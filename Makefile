@@ -36,15 +36,16 @@ build/adbank: $(SOURCES)
 	    { echo 'The program is not built; the whole log is build/build.log.' >&2; exit 1; }
 	@cp crates/adbank/out/adbank $@
 
-# Three sounds become a bank, and the tone plays from it; one period of a sine becomes one block.
+# Three sounds become a bank of each format, and one of each plays; one period of a sine becomes one block.
 demo: build/adbank
 	@mkdir -p build/demo
-	@cp examples/bank.toml examples/*.wav build/demo
+	@cp examples/bank.toml examples/playstation.toml examples/wave.toml examples/*.wav build/demo
 	@sh examples/sine.sh >build/demo/sine.raw
-	@cd build/demo; echo '$$ adbank compile bank.toml'; ../adbank compile bank.toml
-	@cd build/demo; echo '$$ adbank play brr bank.img 2 12'; ../adbank play brr bank.img 2 12
-	@cd build/demo; echo '$$ adbank block sine.raw sine.brr'; ../adbank block sine.raw sine.brr
-	@echo 'Sources, the bank, the first passes and the block lie in build/demo.'
+	@cd build/demo; for words in 'compile bank.toml' 'play brr bank.img 2 12' \
+	    'compile playstation.toml' 'play vag playstation.pluck.vag 0 12' \
+	    'compile wave.toml' 'play ima wave.vowel.wav 0 12' 'block sine.raw sine.brr'; do \
+	  echo "$$ adbank $$words"; ../adbank $$words; done
+	@echo 'Sources, the banks, the first passes and the block lie in build/demo.'
 
 # Every example, each with its command and what it prints, which must be its report.
 .PHONY: examples

@@ -1,6 +1,5 @@
 -- The search's certificate shows the lesser of U and the least whole relaxed path.
-use Rattle.std.proofs.Common.{◌≡◌, ℕ, zero, suc, ◌+◌, ◌-◌, ◌*◌, ◌/◌, ◌%◌, ◌<◌, ◌≤◌, List, [], ◌∷◌, length, get_or, arith, refl, ap, sym, ◌∙◌, min, max, ◌⊎◌, inl, inr, subst, Bool, true, false, IsTrue, nat_eq, cond, ℤ, pos, zero-add, add-zero, Option, Some, None}
-use Rattle.std.specs.Prelude.{◌+ℤ◌, ◌-ℤ◌, ◌≤ℤ◌, unsigned_abs}
+use Rattle.std.proofs.Common.{◌≡◌, ℕ, zero, suc, ◌+◌, ◌-◌, ◌*◌, ◌/◌, ◌%◌, ◌<◌, ◌≤◌, List, [], ◌∷◌, get_or, arith, refl, ◌∙◌, min, ◌⊎◌, inl, inr, Bool, true, false, IsTrue, nat_eq, cond, ℤ, pos, Option, Some, None}
 use Rattle.std.proofs.lemmas.Int.{ints}
 use Rattle.std.specs.List.{Contains}
 use Rattle.std.proofs.Math.Nat.{mod-lt, mod-eq_of_lt, div-eq_of_lt, sub-zero, mul-pos}
@@ -10,14 +9,13 @@ use Rattle.box_layers.specs.Looking.{IsCornered, cell_near, least_listed, or_els
 use Rattle.branch_bound.specs.Searched.{IsSearched}
 use Rattle.machine_core.specs.Blocks.{first_only}
 use Rattle.machine_core.specs.Boxes.{high_corner, low_corner}
-use Rattle.machine_core.specs.Cells.{IsBetween, cell_box, cell_of, is_cell, is_level}
+use Rattle.machine_core.specs.Cells.{IsBetween, cell_box, cell_of, is_level}
 use Rattle.machine_core.specs.Decoder.{start}
-use Rattle.machine_core.specs.Floors.{block_targets, floors_from, may_take, rest, top}
+use Rattle.machine_core.specs.Floors.{floors_from, may_take, rest, top}
 use Rattle.machine_core.specs.Rules.{Rules, grid}
-use Rattle.machine_core.specs.declared.boxes.Bx.{Bx}
 use Rattle.machine_core.specs.declared.boxes.Cell.{Cell}
 use Rattle.machine_core.specs.declared.pieces.Piece.{Piece}
-use Rattle.open_cells.specs.Paths.{FitTargets, HasLaws, IsStep, IsWhole, Leads, Meets, Opens}
+use Rattle.open_cells.specs.Paths.{FitTargets, HasLaws, IsStep, IsWhole, Meets, Opens}
 use Rattle.std.proofs.lemmas.Bool.{cond-true, cond-false}
 use Rattle.std.proofs.lemmas.Bool.Decides.{nat_tests}
 use Rattle.std.proofs.Common.{◌≢◌}

@@ -11,7 +11,7 @@ use Rattle.machine_core.specs.Boxed.{IsBoxed}
 use Rattle.machine_core.specs.Cells.{cell_box}
 use Rattle.machine_core.specs.Floors.{may_take, top}
 use Rattle.machine_core.specs.Rules.{Rules, IsMachine, grid}
-use Rattle.box_layers.specs.Certificates.{found, Certificate, lane_at, head_found, by_head, by_symbol, way, look_ahead, least_piece}
+use Rattle.box_layers.specs.Certificates.{found, Certificate, head_found, by_head, by_symbol, way, look_ahead, least_piece}
 use Rattle.block_steps.proofs.Alike.{lane-of, lanes-next}
 
 pub piece-same : (qs : List Piece) (f g : Piece → ℕ) (a : ℕ) → ((q : Piece) → f q ≡ g q) → least_piece qs f a ≡ least_piece qs g a

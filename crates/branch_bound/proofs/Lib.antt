@@ -9,3 +9,6 @@ pub mod Picks
 pub mod Lists
 pub mod Onward
 pub mod Joining
+pub mod Filing
+pub mod Looked
+pub mod Stored

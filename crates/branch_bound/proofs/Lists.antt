@@ -1,5 +1,5 @@
 -- A list that grows at its end keeps its states and its sum.
-use Rattle.std.proofs.Common.{◌≡◌, ◌≢◌, ℕ, zero, suc, ◌+◌, ◌*◌, ◌%◌, ◌/◌, ◌<◌, ◌≤◌, ◌⊎◌, inl, inr, ℤ, pos, List, [], ◌∷◌, ◌++◌, length, get_or, arith, refl, ap, sym, ◌∙◌, subst, IsTrue, true, false, Bool, cond, nat_eq, length-append}
+use Rattle.std.proofs.Common.{◌≡◌, ℕ, zero, suc, ◌+◌, ◌*◌, ◌%◌, ◌/◌, ◌<◌, ◌≤◌, ◌⊎◌, inl, inr, ℤ, pos, List, [], ◌∷◌, ◌++◌, length, get_or, arith, refl, ap, sym, ◌∙◌, subst, true, Bool, cond, nat_eq, length-append}
 use Rattle.std.proofs.Math.Nat.{mod-lt, mod-eq_of_lt, div-eq_of_lt}
 use Rattle.std.proofs.lemmas.Nat.{div-add-mod'}
 use Rattle.branch_bound.specs.Walks.{begun, list_of}
@@ -11,7 +11,6 @@ use Rattle.machine_core.specs.Floors.{may_take}
 use Rattle.machine_core.specs.Rules.{Rules}
 use Rattle.machine_core.specs.Sums.{cost_at, sum_from}
 use Rattle.machine_core.specs.declared.state.State.{State}
-use Rattle.open_cells.specs.Paths.{HasLaws}
 use Rattle.machine_core.specs.Rules.{IsMachine}
 use Rattle.std.proofs.Common.{zero-add}
 use Rattle.std.proofs.Math.Nat.{suc-add}

@@ -1,12 +1,12 @@
 -- A look into the next layer.
-use Rattle.std.proofs.Common.{◌≡◌, ◌≢◌, ℕ, zero, suc, ◌+◌, ◌*◌, ◌%◌, ◌/◌, ◌<◌, ◌≤◌, ◌⊎◌, inl, inr, ℤ, pos, List, [], ◌∷◌, length, get_or, arith, refl, ap, sym, ◌∙◌, subst, min, IsTrue, true, false, Bool, cond, Option, Some, None, nat_eq}
+use Rattle.std.proofs.Common.{◌≡◌, ◌≢◌, ℕ, zero, suc, ◌+◌, ◌*◌, ◌%◌, ◌<◌, ◌≤◌, ℤ, pos, List, length, get_or, arith, refl, ap, sym, ◌∙◌, subst, min, IsTrue, false, Option, Some, None, nat_eq}
 use Rattle.std.specs.List.{Contains}
 use Rattle.std.proofs.Math.Nat.{mod-lt}
 use Rattle.open_cells.specs.declared.node.Node.{Node}
 use Rattle.open_cells.specs.Nodes.{listed_in}
 use Rattle.open_cells.specs.declared.search.Search.{Search}
 use Rattle.open_cells.specs.Reach.{IsSearch, image_at}
-use Rattle.branch_bound.specs.Worth.{layer_proofs, IsHere}
+use Rattle.branch_bound.specs.Worth.{layer_certificate, IsHere}
 use Rattle.block_steps.specs.declared.spots.Spot.{Spot}
 use Rattle.box_layers.specs.Certificates.{look, look_ahead}
 use Rattle.box_layers.specs.Looking.{cell_near, least_listed, or_else, span_count}
@@ -49,14 +49,14 @@ listed-capped low high listed r =
 
 pub ahead-is : (m : Rules) (targets : List ℤ) (level blocks i j lane to : ℕ) (next : List Node) (bx : Bx) (low high : Cell) (r : ℕ) → low ≡ cell_of (grid m) level (low_corner bx) → high ≡ cell_of (grid m) level (high_corner bx)
     → r ≡ min top (rest m first_only targets blocks j lane bx) → j ≡ suc i → lane ≡ to → suc i ≢ blocks * m.decoder.samples
-    → least_listed low high (listed_in next lane) r ≡ look_ahead m targets (layer_proofs level blocks next) (suc i) to bx
+    → least_listed low high (listed_in next lane) r ≡ look_ahead m targets (layer_certificate level blocks next) (suc i) to bx
 ahead-is m targets level blocks i j lane to next bx low high r le he re je te ne =
     let lo = cell_of (grid m) level (low_corner bx) in let hi = cell_of (grid m) level (high_corner bx) in
     let l : ℕ → ℕ → ℕ = λ a b. least_listed lo hi (listed_in next a) (rest m first_only targets blocks b a bx) in
     let one = ap (λ z. least_listed low high (listed_in next lane) z) re ∙ listed-capped low high (listed_in next lane) (rest m first_only targets blocks j lane bx) in
     let two = ap (λ z. least_listed z high (listed_in next lane) (rest m first_only targets blocks j lane bx)) le ∙ ap (λ z. least_listed lo z (listed_in next lane) (rest m first_only targets blocks j lane bx)) he in
     let three = ap (l lane) je ∙ ap (λ z. l z (suc i)) te in
-    let four = cond-false (nat_eq (suc i) (blocks * m.decoder.samples)) 0 (look m targets (layer_proofs level blocks next) (suc i) to bx) (differ _ _ ne) in
+    let four = cond-false (nat_eq (suc i) (blocks * m.decoder.samples)) 0 (look m targets (layer_certificate level blocks next) (suc i) to bx) (differ _ _ ne) in
     one ∙ (two ∙ (three ∙ sym four))
 
 pub boxes-here : (m : Rules) (s : Search) (at : Spot) (cell : Cell) (head symbol : ℕ) (pieces : List Piece) → HasLaws m → IsSearch m s → IsHere m s at

@@ -1,6 +1,6 @@
 -- One step along the least way, where every cell is one state.
-use Rattle.std.proofs.Common.{◌≡◌, ◌≢◌, ℕ, zero, suc, ◌+◌, ◌-◌, ◌*◌, ◌%◌, ◌/◌, ◌<◌, ◌≤◌, ◌⊎◌, inl, inr, ℤ, pos, List, [], ◌∷◌, ◌++◌, length, get_or, arith, refl, ap, sym, ◌∙◌, subst, min, IsTrue, true, false, Bool, Option, Some, None, nat_eq, cond, length-append}
-use Rattle.std.specs.Prelude.{Vec, ◌+ℤ◌, ◌-ℤ◌, ◌≤ℤ◌, unsigned_abs}
+use Rattle.std.proofs.Common.{◌≡◌, ◌≢◌, ℕ, suc, ◌+◌, ◌-◌, ◌*◌, ◌%◌, ◌<◌, ◌≤◌, ◌⊎◌, inl, inr, ℤ, pos, List, [], ◌∷◌, ◌++◌, length, get_or, arith, refl, ap, sym, ◌∙◌, subst, min, IsTrue, true, false, Option, Some, nat_eq, length-append}
+use Rattle.std.specs.Prelude.{Vec, ◌+ℤ◌, ◌≤ℤ◌}
 use Rattle.std.specs.declared.alloc.Global.{Global}
 use Rattle.std.specs.List.{Contains}
 use Rattle.std.proofs.Math.Nat.{mod-lt, mod-eq_of_lt}
@@ -9,7 +9,7 @@ use Rattle.open_cells.specs.Nodes.{listed_in}
 use Rattle.open_cells.specs.declared.node.Node.{Node}
 use Rattle.open_cells.proofs.Order.{same-cell}
 use Rattle.open_cells.specs.Counts.{nodes_at}
-use Rattle.branch_bound.specs.Worth.{layer_proofs, layers_proofs}
+use Rattle.branch_bound.specs.Worth.{layer_certificate, layers_certificate}
 use Rattle.branch_bound.proofs.Picks.{first-lane}
 use Rattle.branch_bound.specs.Walks.{IsListed, IsWalk, IsGround, list_of, begun}
 use Rattle.branch_bound.proofs.Lists.{HeadsNow, begun-first, agree-now, state-same, sum-same, sum-last, get-front, get-last, later-inside}
@@ -35,13 +35,11 @@ use Rattle.std.proofs.lemmas.Bool.Decides.{nat_tests}
 use Rattle.adpcm_nums.specs.Sample.{IsSample}
 use Rattle.machine_core.proofs.CellLaws.{exact-box}
 use Rattle.machine_core.proofs.Places.{block-of, place-of}
-use Rattle.machine_core.specs.Blocks.{Blocks, rule_of}
-use Rattle.machine_core.specs.Boxed.{IsMove}
-use Rattle.open_cells.specs.Paths.{Meets}
+use Rattle.machine_core.specs.Blocks.{Blocks}
 use Rattle.machine_core.specs.declared.choice.Choice.{Choice}
 use Rattle.branch_bound.specs.Searched.{IsChoice, blocks_of}
 use Rattle.branch_bound.specs.declared.levels.LevelCert.{LevelCert}
-use Rattle.branch_bound.specs.Lists.{IsShown, proofs_of}
+use Rattle.branch_bound.specs.Lists.{IsShown, level_certificate}
 use Rattle.box_layers.specs.Certificates.{Certificate, IsAccepted}
 use Rattle.branch_bound.specs.Searched.{IsSearched}
 
@@ -96,21 +94,21 @@ after-state m targets blocks i head symbol at t = t.laws.machine.steps head (i %
 
 -- what is left is the step's cost and what lies ahead
 pub left-is : (m : Rules) (targets : List ℤ) (blocks i head symbol left : ℕ) (at : State) (next : List Node) → IsTaken m targets blocks i head symbol at
-    → by_symbol m targets (layer_proofs 0 blocks next) i (cell_of (grid m) 0 at) head symbol ≡ left → left < top
-    → left ≡ paid m targets i head symbol at + look_ahead m targets (layer_proofs 0 blocks next) (suc i) (lane_at m head (suc i)) (point_box (after m i head symbol at))
+    → by_symbol m targets (layer_certificate 0 blocks next) i (cell_of (grid m) 0 at) head symbol ≡ left → left < top
+    → left ≡ paid m targets i head symbol at + look_ahead m targets (layer_certificate 0 blocks next) (suc i) (lane_at m head (suc i)) (point_box (after m i head symbol at))
 left-is m targets blocks i head symbol left at next t e small =
-    let w = way m targets (layer_proofs 0 blocks next) i head in
+    let w = way m targets (layer_certificate 0 blocks next) i head in
     let q = ap (λ (z : List Piece). least_piece z w top) (image-is m targets blocks i head symbol at t) in
     let r : min top (w (piece_of m targets i head symbol at)) ≡ left = sym q ∙ e in
     omega arith
 
-ahead-end : (m : Rules) (targets : List ℤ) (blocks i lane : ℕ) (at : State) (next : List Node) → i ≡ blocks * m.decoder.samples → look_ahead m targets (layer_proofs 0 blocks next) i lane (point_box at) ≡ 0
-ahead-end m targets blocks i lane at next e = cond-true (nat_eq i (blocks * m.decoder.samples)) 0 (look m targets (layer_proofs 0 blocks next) i lane (point_box at)) (same i (blocks * m.decoder.samples) e)
+ahead-end : (m : Rules) (targets : List ℤ) (blocks i lane : ℕ) (at : State) (next : List Node) → i ≡ blocks * m.decoder.samples → look_ahead m targets (layer_certificate 0 blocks next) i lane (point_box at) ≡ 0
+ahead-end m targets blocks i lane at next e = cond-true (nat_eq i (blocks * m.decoder.samples)) 0 (look m targets (layer_certificate 0 blocks next) i lane (point_box at)) (same i (blocks * m.decoder.samples) e)
 
 ahead-inside : (m : Rules) (targets : List ℤ) (blocks i lane : ℕ) (at : State) (next : List Node) → i < blocks * m.decoder.samples
-    → look_ahead m targets (layer_proofs 0 blocks next) i lane (point_box at) ≡ min top (min top (or_else (listed_in next lane (cell_of (grid m) 0 at)) (rest m first_only targets blocks i lane (point_box at))))
+    → look_ahead m targets (layer_certificate 0 blocks next) i lane (point_box at) ≡ min top (min top (or_else (listed_in next lane (cell_of (grid m) 0 at)) (rest m first_only targets blocks i lane (point_box at))))
 ahead-inside m targets blocks i lane at next h =
-    cond-false (nat_eq i (blocks * m.decoder.samples)) 0 (look m targets (layer_proofs 0 blocks next) i lane (point_box at)) (differ i (blocks * m.decoder.samples) (λ e. omega arith))
+    cond-false (nat_eq i (blocks * m.decoder.samples)) 0 (look m targets (layer_certificate 0 blocks next) i lane (point_box at)) (differ i (blocks * m.decoder.samples) (λ e. omega arith))
     ∙ one-listed (cell_of (grid m) 0 at) (listed_in next lane) (rest m first_only targets blocks i lane (point_box at))
 
 le-self : (a : ℤ) → a ≤ℤ a
@@ -134,7 +132,7 @@ step-is m targets blocks i lane head symbol at t takes = record {
 -- what is listed after a step
 pub listed-after : (m : Rules) (targets : List ℤ) (blocks most total : ℕ) (layers : List (Vec Node Global)) (i old head symbol cost left left' : ℕ) (at : State) → IsGround m targets blocks most layers
     → IsTaken m targets blocks i head symbol at → IsListed m targets blocks most layers i old cost left at → may_take m first_only i (lane_at m old i) head ≡ true
-    → by_symbol m targets (layer_proofs 0 blocks (nodes_at layers (suc i))) i (cell_of (grid m) 0 at) head symbol ≡ left → cost + left ≡ total → total < most → most ≤ top → suc i < blocks * m.decoder.samples
+    → by_symbol m targets (layer_certificate 0 blocks (nodes_at layers (suc i))) i (cell_of (grid m) 0 at) head symbol ≡ left → cost + left ≡ total → total < most → most ≤ top → suc i < blocks * m.decoder.samples
     → left' ≡ left - paid m targets i head symbol at → IsListed m targets blocks most layers (suc i) head (cost + paid m targets i head symbol at) left' (after m i head symbol at)
 listed-after m targets blocks most total layers i old head symbol cost left left' at g t l takes e ce small fits within le =
     let next = nodes_at layers (suc i) in
@@ -173,9 +171,9 @@ listed-after m targets blocks most total layers i old head symbol cost left left
 
 -- what is listed on the way is what is found
 pub found-is : (m : Rules) (targets : List ℤ) (blocks most total : ℕ) (layers : List (Vec Node Global)) (i head cost left : ℕ) (at : State) → IsGround m targets blocks most layers → IsListed m targets blocks most layers i head cost left at
-    → cost + left ≡ total → total < most → found m targets (layer_proofs 0 blocks (nodes_at layers (suc i))) i (lane_at m head i) (cell_of (grid m) 0 at) ≡ left
+    → cost + left ≡ total → total < most → found m targets (layer_certificate 0 blocks (nodes_at layers (suc i))) i (lane_at m head i) (cell_of (grid m) 0 at) ≡ left
 found-is m targets blocks most total layers i head cost left at g l ce small =
-    let w : min most (found m targets (layers_proofs 0 blocks layers) i (lane_at m head i) (cell_of (grid m) 0 at)) ≤ left = g.searched.worth i (lane_at m head i) (cell_of (grid m) 0 at) left l.listed in
+    let w : min most (found m targets (layers_certificate 0 blocks layers) i (lane_at m head i) (cell_of (grid m) 0 at)) ≤ left = g.searched.worth i (lane_at m head i) (cell_of (grid m) 0 at) left l.listed in
     let a = (g.accepted i (lane_at m head i) (cell_of (grid m) 0 at) left l.listed).1 in
     omega arith
 
@@ -185,7 +183,7 @@ below-or j i h = grind arith
 -- one sample more
 pub walk-more : (m : Rules) (targets : List ℤ) (blocks most total : ℕ) (layers : List (Vec Node Global)) (heads heads' symbols : List ℕ) (at : State) (old head symbol left left' i : ℕ) → IsGround m targets blocks most layers
     → IsWalk m targets blocks most total layers heads symbols at old left i → IsTaken m targets blocks i head symbol at → HeadsNow m heads heads' i head → may_take m first_only i (lane_at m old i) head ≡ true
-    → by_symbol m targets (layer_proofs 0 blocks (nodes_at layers (suc i))) i (cell_of (grid m) 0 at) head symbol ≡ left → total < most → most ≤ top → i < blocks * m.decoder.samples
+    → by_symbol m targets (layer_certificate 0 blocks (nodes_at layers (suc i))) i (cell_of (grid m) 0 at) head symbol ≡ left → total < most → most ≤ top → i < blocks * m.decoder.samples
     → left' ≡ left - paid m targets i head symbol at → IsWalk m targets blocks most total layers heads' (symbols ++ symbol ∷ []) (after m i head symbol at) head left' (suc i)
 walk-more m targets blocks most total layers heads heads' symbols at old head symbol left left' i g w t now takes e small fits within le =
     let l = list_of heads symbols in
@@ -266,22 +264,22 @@ walk-starts m targets blocks most total layers heads symbols head left laws g he
 
 pub found-at : (m : Rules) (targets : List ℤ) (blocks most total : ℕ) (layers : List (Vec Node Global)) (heads symbols : List ℕ) (i head left : ℕ) (at : State) (next : List Node) (cell : Cell) → IsGround m targets blocks most layers
     → IsWalk m targets blocks most total layers heads symbols at head left i → i < blocks * m.decoder.samples → total < most → next ≡ nodes_at layers (suc i) → cell ≡ cell_of (grid m) 0 at
-    → found m targets (layer_proofs 0 blocks next) i (lane_at m head i) cell ≡ left
+    → found m targets (layer_certificate 0 blocks next) i (lane_at m head i) cell ≡ left
 found-at m targets blocks most total layers heads symbols i head left at next cell g w h small ne ce =
-    ap (λ (z : List Node). found m targets (layer_proofs 0 blocks z) i (lane_at m head i) cell) ne
-    ∙ (ap (found m targets (layer_proofs 0 blocks (nodes_at layers (suc i))) i (lane_at m head i)) ce
+    ap (λ (z : List Node). found m targets (layer_certificate 0 blocks z) i (lane_at m head i) cell) ne
+    ∙ (ap (found m targets (layer_certificate 0 blocks (nodes_at layers (suc i))) i (lane_at m head i)) ce
     ∙ found-is m targets blocks most total layers i head (sum_from m.decoder (list_of heads symbols) targets 0 i) left at g (w.here h) w.sum_is small)
 
 pub walk-now : (m : Rules) (targets : List ℤ) (blocks most total : ℕ) (layers : List (Vec Node Global)) (heads heads' symbols symbols' : List ℕ) (at at' : State) (old head symbol left left' i place cost n' : ℕ) (target : ℤ) (next : List Node) (cell : Cell)
     → IsGround m targets blocks most layers → IsWalk m targets blocks most total layers heads symbols at old left i → IsTaken m targets blocks i head symbol at → HeadsNow m heads heads' i head → may_take m first_only i (lane_at m old i) head ≡ true
-    → by_symbol m targets (layer_proofs 0 blocks next) i cell head symbol ≡ left → total < most → most ≤ top → i < blocks * m.decoder.samples
+    → by_symbol m targets (layer_certificate 0 blocks next) i cell head symbol ≡ left → total < most → most ≤ top → i < blocks * m.decoder.samples
     → next ≡ nodes_at layers (suc i) → cell ≡ cell_of (grid m) 0 at → symbols' ≡ symbols ++ symbol ∷ [] → at' ≡ m.decoder.step head place symbol at → place ≡ i % m.decoder.samples → cost ≡ cost_of m.decoder at' target → target ≡ get_or targets i (pos 0) → left' ≡ left - cost → n' ≡ suc i
     → IsWalk m targets blocks most total layers heads' symbols' at' head left' n'
 walk-now m targets blocks most total layers heads heads' symbols symbols' at at' old head symbol left left' i place cost n' target next cell g w t now takes e small fits within ne ce se ae pe coste te le nn =
     let state : at' ≡ after m i head symbol at = ae ∙ ap (λ z. m.decoder.step head z symbol at) pe in
     let paid' : cost ≡ paid m targets i head symbol at = coste ∙ (ap (λ (z : State). cost_of m.decoder z target) state ∙ ap (cost_of m.decoder (after m i head symbol at)) te) in
-    let e' : by_symbol m targets (layer_proofs 0 blocks (nodes_at layers (suc i))) i (cell_of (grid m) 0 at) head symbol ≡ left =
-    sym (ap (λ (z : List Node). by_symbol m targets (layer_proofs 0 blocks z) i cell head symbol) ne ∙ ap (λ z. by_symbol m targets (layer_proofs 0 blocks (nodes_at layers (suc i))) i z head symbol) ce) ∙ e in
+    let e' : by_symbol m targets (layer_certificate 0 blocks (nodes_at layers (suc i))) i (cell_of (grid m) 0 at) head symbol ≡ left =
+    sym (ap (λ (z : List Node). by_symbol m targets (layer_certificate 0 blocks z) i cell head symbol) ne ∙ ap (λ z. by_symbol m targets (layer_certificate 0 blocks (nodes_at layers (suc i))) i z head symbol) ce) ∙ e in
     let r = walk-more m targets blocks most total layers heads heads' symbols at old head symbol left left' i g w t now takes e' small fits within (le ∙ ap (λ z. left - z) paid') in
     subst (λ (z : ℕ). IsWalk m targets blocks most total layers heads' symbols' at' head left' z) (sym nn)
     (subst (λ (z : State). IsWalk m targets blocks most total layers heads' symbols' z head left' (suc i)) (sym state)
@@ -313,7 +311,7 @@ choice-of m blocks targets heads symbols total c legal sum he se te =
 -- the layers of a certificate of level 0
 pub ground-of : (m : Rules) (targets : List ℤ) (blocks most share : ℕ) (c : LevelCert) → IsShown m targets blocks most share c → c.level ≡ 0 → IsGround m targets blocks most c.layers.items
 ground-of m targets blocks most share c s le =
-    let same : proofs_of c ≡ layers_proofs 0 blocks c.layers.items = ap (λ z. layers_proofs z c.blocks c.layers.items) le ∙ ap (λ z. layers_proofs 0 z c.layers.items) s.blocks_are in
+    let same : level_certificate c ≡ layers_certificate 0 blocks c.layers.items = ap (λ z. layers_certificate z c.blocks c.layers.items) le ∙ ap (λ z. layers_certificate 0 z c.layers.items) s.blocks_are in
     record {
       rising = s.rising;
       searched = subst (λ (z : Certificate). IsSearched m targets most z) same (s.searched (λ e. omega arith));

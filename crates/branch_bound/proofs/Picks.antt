@@ -1,12 +1,11 @@
 -- A head and a symbol that come to the least.
-use Rattle.std.proofs.Common.{◌≡◌, ◌≢◌, ℕ, ◌%◌, ◌<◌, ◌≤◌, ◌⊎◌, inl, inr, ℤ, List, arith, ap, sym, ◌∙◌, true, nat_eq}
+use Rattle.std.proofs.Common.{◌≡◌, ◌≢◌, ℕ, ◌%◌, ◌<◌, inl, inr, ℤ, List, arith, sym, ◌∙◌, true, nat_eq}
 use Rattle.adpcm_nums.specs.LeastValue.{least}
 use Rattle.box_layers.specs.Certificates.{Certificate, by_head, found, lane_at}
 use Rattle.machine_core.specs.Blocks.{first_only}
 use Rattle.machine_core.specs.Floors.{may_take, top}
 use Rattle.machine_core.specs.Rules.{Rules}
 use Rattle.machine_core.specs.declared.boxes.Cell.{Cell}
-use Rattle.open_cells.specs.Paths.{HasLaws}
 use Rattle.std.proofs.lemmas.Bool.{cond-false, cond-true}
 use Rattle.adpcm_nums.proofs.LeastValueLaws.{least-reached}
 use Rattle.machine_core.specs.Boxed.{IsBoxed}

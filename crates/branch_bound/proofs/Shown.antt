@@ -1,5 +1,5 @@
 -- Layers of reached cells with their worth make an accepted certificate that shows no less than the search found.
-use Rattle.std.proofs.Common.{◌≡◌, ◌≢◌, ℕ, zero, suc, ◌+◌, ◌-◌, ◌*◌, ◌%◌, ◌/◌, ◌<◌, ◌≤◌, ◌⊎◌, inl, inr, ℤ, pos, List, [], ◌∷◌, ◌++◌, length, get_or, arith, refl, ap, sym, ◌∙◌, subst, min, max, IsTrue, true, false, Bool, map, Option, Some, None, Result, Ok, Err}
+use Rattle.std.proofs.Common.{◌≡◌, ◌≢◌, ℕ, zero, suc, ◌+◌, ◌-◌, ◌*◌, ◌%◌, ◌/◌, ◌<◌, ◌≤◌, inl, inr, ℤ, List, [], length, get_or, arith, refl, ap, sym, ◌∙◌, subst, min, max, IsTrue, true, false, map, Option, Some, None, Result, Ok, Err}
 use Rattle.std.specs.Prelude.{Vec, IfOk}
 use Rattle.std.specs.List.{Contains}
 use Rattle.std.specs.declared.alloc.Global.{Global}
@@ -8,21 +8,19 @@ use Rattle.std.proofs.lemmas.Bool.{cases_lt}
 use Rattle.std.proofs.lemmas.List.{get_or-map, length-map}
 use Rattle.std.proofs.lemmas.List.Elements.{Contains-get_or}
 use Rattle.open_cells.specs.declared.node.Node.{Node}
-use Rattle.open_cells.specs.Nodes.{listed_in, HasNode, IsRising}
+use Rattle.open_cells.specs.Nodes.{listed_in, IsRising}
 use Rattle.open_cells.proofs.Merging.{blank}
 use Rattle.open_cells.proofs.Order.{rising-nil}
-use Rattle.open_cells.proofs.Look.{Listed, listed-at, listed-some}
-use Rattle.open_cells.specs.Reach.{IsFront}
+use Rattle.open_cells.proofs.Look.{listed-at, listed-some}
 use Rattle.open_cells.specs.Counts.{nodes_at, count_of, AreFronts}
-use Rattle.branch_bound.specs.Worth.{valued, AreValued, layers_proofs}
+use Rattle.branch_bound.specs.Worth.{valued, AreValued, layers_certificate}
 use Rattle.branch_bound.proofs.Values.{nodes-past, rising-map}
 use Rattle.std.specs.Prelude.{slice_index}
-use Rattle.branch_bound.specs.Lists.{IsCert, IsShown, proofs_of}
+use Rattle.branch_bound.specs.Lists.{IsCert, IsShown, level_certificate}
 use Rattle.branch_bound.specs.Searched.{IsLevel}
 use Rattle.branch_bound.specs.Searched.{IsChoice, blocks_of}
 use Rattle.machine_core.specs.declared.choice.Choice.{Choice}
 use Rattle.branch_bound.specs.declared.levels.LevelCert.{LevelCert}
-use Rattle.adpcm_nums.specs.LeastValue.{least}
 use Rattle.block_steps.specs.Tables.{HoldLater}
 use Rattle.box_layers.specs.Certificates.{Certificate, IsAccepted, found, value}
 use Rattle.box_layers.specs.Looking.{or_else}
@@ -56,7 +54,7 @@ pub record IsWorth (m : Rules) (targets : List ℤ) (blocks level most : ℕ) (l
   pub within : i < blocks * m.decoder.samples
   pub cost : ℕ
   pub opened : Opens m targets blocks level most i lane cell cost
-  pub worth : v ≡ min most (found m targets (layers_proofs level blocks layers) i lane cell)
+  pub worth : v ≡ min most (found m targets (layers_certificate level blocks layers) i lane cell)
 
 none-listed : (xs : List Node) (lane : ℕ) (cell : Cell) (v : ℕ) → xs ≡ [] → listed_in xs lane cell ≡ Some v → ⊥
 none-listed xs lane cell v e h = let q : listed_in [] lane cell ≡ Some v = subst (λ (z : List Node). listed_in z lane cell ≡ Some v) e h in cc
@@ -78,7 +76,7 @@ listed-worth m targets blocks level most share fronts layers d i lane cell v h =
           let l : x.lane ≡ lane = sym (ap (λ (z : Node). z.lane) at) ∙ g.lane_is blank in
           let c : x.cell ≡ cell = sym (ap (λ (z : Node). z.cell) at) ∙ g.cell_is blank in
           let o = (d.fronts_are.each i lt).opened.each x (Contains-get_or front g.k blank k) in
-          let w : ℕ → Cell → ℕ = λ a b. min most (found m targets (layers_proofs level blocks layers) i a b) in
+          let w : ℕ → Cell → ℕ = λ a b. min most (found m targets (layers_certificate level blocks layers) i a b) in
           record {
             within = lt;
             cost = x.cost;
@@ -105,7 +103,7 @@ open-listed m targets blocks level most share fronts layers d i lane cell cost o
     (s.0, subst (λ (z : List Node). listed_in z lane cell ≡ Some s.0) (sym e) s.1)
 
 pub searched-of : (m : Rules) (targets : List ℤ) (blocks level most share : ℕ) (fronts layers : List (Vec Node Global)) → IsDone m targets blocks level most share fronts layers
-    → IsSearched m targets most (layers_proofs level blocks layers)
+    → IsSearched m targets most (layers_certificate level blocks layers)
 searched-of m targets blocks level most share fronts layers d = record {
   all = λ i lane cell cost o. open-listed m targets blocks level most share fronts layers d i lane cell cost o;
   only = λ i lane cell v h. (let w = listed-worth m targets blocks level most share fronts layers d i lane cell v h in (w.cost, w.opened));
@@ -113,7 +111,7 @@ searched-of m targets blocks level most share fronts layers d = record {
 }
 
 pub accepted-of : (m : Rules) (targets : List ℤ) (blocks level most share : ℕ) (fronts layers : List (Vec Node Global)) → IsDone m targets blocks level most share fronts layers
-    → IsAccepted m targets (layers_proofs level blocks layers)
+    → IsAccepted m targets (layers_certificate level blocks layers)
 accepted-of m targets blocks level most share fronts layers d i lane cell v h =
     let w = listed-worth m targets blocks level most share fronts layers d i lane cell v h in
     let e = w.worth in
@@ -135,7 +133,7 @@ later-first m targets blocks later h = h.each 0 (omega arith) ∙ ap (λ z. min 
 
 pub bound-is : (m : Rules) (targets : List ℤ) (blocks level most bound first : ℕ) (layers : List (Vec Node Global)) (at : Cell) (o : Option ℕ) → HasLaws m → FitTargets m blocks targets → IsSum m blocks targets most → most ≤ top
     → bound ≡ max first (or_else o 0) → first ≡ min top (floors_from m first_only targets 0 blocks) → o ≡ listed_in (nodes_at layers 0) 65535 at → at ≡ cell_of (grid m) level start
-    → bound ≡ value m targets (layers_proofs level blocks layers)
+    → bound ≡ value m targets (layers_certificate level blocks layers)
 bound-is m targets blocks level most bound first layers at o laws fit s small be fe oe ae =
     let floors = floors-small m targets blocks most laws fit s in
     let first' : first ≡ floors_from m first_only targets 0 blocks = omega arith in
@@ -146,16 +144,16 @@ max-zero : (n : ℕ) → max n 0 ≡ n
 max-zero n = omega arith
 
 -- no layer at all
-pub none-accepted : (m : Rules) (targets : List ℤ) (blocks level : ℕ) (layers : List (Vec Node Global)) → layers ≡ [] → IsAccepted m targets (layers_proofs level blocks layers)
+pub none-accepted : (m : Rules) (targets : List ℤ) (blocks level : ℕ) (layers : List (Vec Node Global)) → layers ≡ [] → IsAccepted m targets (layers_certificate level blocks layers)
 none-accepted m targets blocks level layers e i lane cell v h = absurd (none-listed (nodes_at layers i) lane cell v (ap (λ (z : List (Vec Node Global)). nodes_at z i) e) h)
 
-pub none-value : (m : Rules) (targets : List ℤ) (blocks level : ℕ) (layers : List (Vec Node Global)) → layers ≡ [] → value m targets (layers_proofs level blocks layers) ≡ floors_from m first_only targets 0 blocks
+pub none-value : (m : Rules) (targets : List ℤ) (blocks level : ℕ) (layers : List (Vec Node Global)) → layers ≡ [] → value m targets (layers_certificate level blocks layers) ≡ floors_from m first_only targets 0 blocks
 none-value m targets blocks level layers e =
     let o : Option ℕ → ℕ = λ z. max (floors_from m first_only targets 0 blocks) (or_else z 0) in
     ap (λ (z : List (Vec Node Global)). o (listed_in (nodes_at z 0) 65535 (cell_of (grid m) level start))) e ∙ max-zero (floors_from m first_only targets 0 blocks)
 
 pub none-bound : (m : Rules) (targets : List ℤ) (blocks level most first : ℕ) (layers : List (Vec Node Global)) → HasLaws m → FitTargets m blocks targets → IsSum m blocks targets most → most ≤ top
-    → first ≡ min top (floors_from m first_only targets 0 blocks) → layers ≡ [] → (first ≡ floors_from m first_only targets 0 blocks) × (first ≡ value m targets (layers_proofs level blocks layers))
+    → first ≡ min top (floors_from m first_only targets 0 blocks) → layers ≡ [] → (first ≡ floors_from m first_only targets 0 blocks) × (first ≡ value m targets (layers_certificate level blocks layers))
 none-bound m targets blocks level most first layers laws fit s small fe e =
     let floors = floors-small m targets blocks most laws fit s in
     let v = none-value m targets blocks level layers e in
@@ -182,10 +180,10 @@ not-level : (level : ℕ) → level ≡ 255 → IsTrue (is_level level) → ⊥
 not-level level e h = let f : false ≡ true = subst (λ (z : ℕ). IsTrue (is_level z)) e h in cc
 
 pub cert-near : (m : Rules) → HasLaws m → (targets : List ℤ) (blocks most share : ℕ) (c : LevelCert) → c.blocks ≡ blocks → IsLevel m targets blocks most share c.level → c.level ≢ 255 → FitTargets m blocks targets
-    → 0 < blocks → most ≤ top → IsSearched m targets most (proofs_of c) → IsCert m targets c → (w : ℕ) → w ≤ most → ((cost : ℕ) → IsWhole m targets blocks c.level cost → w ≤ cost) → w ≤ c.bound
+    → 0 < blocks → most ≤ top → IsSearched m targets most (level_certificate c) → IsCert m targets c → (w : ℕ) → w ≤ most → ((cost : ℕ) → IsWhole m targets blocks c.level cost → w ≤ cost) → w ≤ c.bound
 cert-near m laws targets blocks most share c be l ne fit some small s cert w le whole =
     let fit' = subst (λ (z : ℕ). FitTargets m z targets) (sym be) fit in
-    let v = value-above m laws targets (proofs_of c) most w fit' (level-fits m targets blocks most share c.level l ne) (omega arith) small s le
+    let v = value-above m laws targets (level_certificate c) most w fit' (level-fits m targets blocks most share c.level l ne) (omega arith) small s le
     (λ cost h. whole cost (subst (λ (z : ℕ). IsWhole m targets z c.level cost) be h)) in
     let b = cert.bound in omega arith
 
@@ -202,7 +200,7 @@ pub bound-below : (m : Rules) → HasLaws m → (targets : List ℤ) (blocks : �
 bound-below m laws targets blocks c be lev cert fit l legal =
     let fit' = subst (λ (z : ℕ). FitTargets m z targets) (sym be) fit in
     let legal' = subst (λ (z : ℕ). IsLegal m.decoder z first_only l) (sym be) legal in
-    let v = sound m laws targets (proofs_of c) l lev legal' fit' cert.accepted in
+    let v = sound m laws targets (level_certificate c) l lev legal' fit' cert.accepted in
     let e = ap (λ z. sum_of m.decoder l targets z) be in
     let b = cert.bound in omega arith
 
@@ -214,7 +212,7 @@ bound-above m targets c v le cert h =
     let b = cert.bound in omega arith
 
 -- a start that is not listed is not open
-pub bound-shut : (m : Rules) (targets : List ℤ) (c : LevelCert) (most : ℕ) → HasLaws m → c.level ≡ 0 → IsCert m targets c → IsSearched m targets most (proofs_of c) → listed_in (nodes_at c.layers.items 0) 65535 (cell_of (grid m) 0 start) ≡ None → most ≤ c.bound
+pub bound-shut : (m : Rules) (targets : List ℤ) (c : LevelCert) (most : ℕ) → HasLaws m → c.level ≡ 0 → IsCert m targets c → IsSearched m targets most (level_certificate c) → listed_in (nodes_at c.layers.items 0) 65535 (cell_of (grid m) 0 start) ≡ None → most ≤ c.bound
 bound-shut m targets c most laws le cert s h =
     let h' : listed_in (nodes_at c.layers.items 0) 65535 (cell_of (grid m) c.level start) ≡ None = ap (λ z. listed_in (nodes_at c.layers.items 0) 65535 (cell_of (grid m) z start)) le ∙ h in
     let cell = cell_of (grid m) c.level start in
@@ -240,7 +238,7 @@ walk-optimal m laws targets blocks total c choice be cert fit le ch low high =
     let s = ch.sum in
     omega arith
 
-pub only-opens : (m : Rules) (targets : List ℤ) (blocks most : ℕ) (c : LevelCert) → c.blocks ≡ blocks → IsSearched m targets most (proofs_of c) → (i lane : ℕ) (cell : Cell) (v : ℕ)
+pub only-opens : (m : Rules) (targets : List ℤ) (blocks most : ℕ) (c : LevelCert) → c.blocks ≡ blocks → IsSearched m targets most (level_certificate c) → (i lane : ℕ) (cell : Cell) (v : ℕ)
     → listed_in (nodes_at c.layers.items i) lane cell ≡ Some v → (cost : ℕ) × Opens m targets blocks c.level most i lane cell cost
 only-opens m targets blocks most c be s i lane cell v h = let o = s.only i lane cell v h in (o.0, subst (λ (z : ℕ). Opens m targets z c.level most i lane cell o.0) be o.1)
 
@@ -323,10 +321,10 @@ values-below m targets blocks level most share fronts layers d i x c =
     ]
 
 pub shown-of : (m : Rules) (targets : List ℤ) (blocks level most share : ℕ) (fronts : List (Vec Node Global)) (c : LevelCert) → IsDone m targets blocks level most share fronts c.layers.items → FitTargets m blocks targets → IsTrue (is_level level)
-    → c.blocks ≡ blocks → c.level ≡ level → c.bound ≡ value m targets (layers_proofs level blocks c.layers.items) → IsShown m targets blocks most share c
+    → c.blocks ≡ blocks → c.level ≡ level → c.bound ≡ value m targets (layers_certificate level blocks c.layers.items) → IsShown m targets blocks most share c
 shown-of m targets blocks level most share fronts c d fit lev be le v =
     let layers = c.layers.items in
-    let same : layers_proofs level blocks layers ≡ proofs_of c = ap (λ z. layers_proofs z blocks layers) (sym le) ∙ ap (λ z. layers_proofs c.level z layers) (sym be) in
+    let same : layers_certificate level blocks layers ≡ level_certificate c = ap (λ z. layers_certificate z blocks layers) (sym le) ∙ ap (λ z. layers_certificate c.level z layers) (sym be) in
     record {
       blocks_are = be;
       searched = λ ne. subst (λ (z : Certificate). IsSearched m targets most z) same (searched-of m targets blocks level most share fronts layers d);

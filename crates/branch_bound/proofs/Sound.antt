@@ -1,5 +1,5 @@
 -- What an accepted certificate and the floors say of a legal list.
-use Rattle.std.proofs.Common.{◌≡◌, ℕ, ◌*◌, ◌≤◌, ◌<◌, sym, arith, IsTrue, List, ℤ}
+use Rattle.std.proofs.Common.{◌≡◌, ℕ, ◌*◌, ◌≤◌, sym, arith, IsTrue, List, ℤ}
 use Rattle.std.proofs.Math.Nat.{mod-lt}
 use Rattle.std.proofs.lemmas.Nat.{div-add-mod'}
 use Rattle.machine_core.specs.Blocks.{Blocks, IsLegal, first_only}

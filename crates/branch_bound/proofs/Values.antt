@@ -1,7 +1,6 @@
 -- Layers from the end to the start.
-use Rattle.std.proofs.Common.{◌≡◌, ◌≢◌, ℕ, zero, suc, ◌+◌, ◌-◌, ◌*◌, ◌%◌, ◌/◌, ◌<◌, ◌≤◌, ◌⊎◌, inl, inr, ℤ, pos, List, [], ◌∷◌, ◌++◌, length, get_or, arith, refl, ap, sym, ◌∙◌, subst, min, IsTrue, true, false, Bool, map, length-append}
+use Rattle.std.proofs.Common.{◌≡◌, ◌≢◌, ℕ, zero, suc, ◌+◌, ◌-◌, ◌*◌, ◌<◌, ◌≤◌, ◌⊎◌, inl, inr, ℤ, List, [], ◌∷◌, ◌++◌, length, get_or, arith, refl, ap, sym, ◌∙◌, subst, IsTrue, map, length-append}
 use Rattle.std.specs.Prelude.{Vec, reverse}
-use Rattle.std.specs.List.{Contains}
 use Rattle.std.specs.declared.alloc.Global.{Global}
 use Rattle.std.proofs.lemmas.List.{get_or-reverse, length-reverse, get_or-map, length-map}
 use Rattle.std.proofs.lemmas.List.Elements.{Contains-get_or}
@@ -10,7 +9,7 @@ use Rattle.open_cells.specs.Nodes.{IsRising, rank}
 use Rattle.open_cells.proofs.Order.{rising-nil}
 use Rattle.open_cells.proofs.Merging.{blank}
 use Rattle.open_cells.specs.declared.search.Search.{Search}
-use Rattle.open_cells.specs.Reach.{IsSearch, IsFront, AllOpen}
+use Rattle.open_cells.specs.Reach.{IsSearch, AllOpen}
 use Rattle.open_cells.proofs.Fronts.{node-cell}
 use Rattle.open_cells.specs.Counts.{nodes_at}
 use Rattle.open_cells.proofs.Built.{nodes-get, nodes-front, at-last}

@@ -1,5 +1,5 @@
 -- Cells before each sample as the layers of a certificate, one for each lane.
-use Rattle.std.specs.Prelude.{ℕ, suc, ◌/◌, ◌%◌, ◌==◌, if◌then◌else◌, List, [], ◌∷◌, ◌++◌, Vec}
+use Rattle.std.specs.Prelude.{ℕ, suc, ◌+◌, length, ◌/◌, ◌%◌, ◌==◌, if◌then◌else◌, List, [], ◌∷◌, ◌++◌, Vec}
 use Rattle.std.specs.declared.alloc.Global.{Global}
 use Rattle.box_layers.specs.declared.cell_value.CellValue.{CellValue}
 use Rattle.box_layers.specs.declared.key.Key.{Key}
@@ -27,3 +27,8 @@ cut block place (x ∷ xs) = joined block place x.lane (cell_of_node x ∷ []) (
 abbrev pub keyed : ℕ → ℕ → List (Vec Node Global) → List Layer
 keyed samples i [] = []
 keyed samples i (x ∷ xs) = cut (i / samples) (i % samples) x.items ++ keyed samples (suc i) xs
+
+-- how many cells layers have
+abbrev pub cell_total : List Layer → ℕ
+cell_total [] = 0
+cell_total (x ∷ xs) = length x.cells + cell_total xs

@@ -8,22 +8,22 @@ use Rattle.open_cells.specs.declared.node.Node.{Node}
 use Rattle.open_cells.specs.Counts.{nodes_at, count_of}
 use Rattle.open_cells.specs.Nodes.{IsRising}
 use Rattle.branch_bound.specs.Searched.{IsSearched}
-use Rattle.branch_bound.specs.Worth.{layers_proofs}
+use Rattle.branch_bound.specs.Worth.{layers_certificate}
 use Rattle.branch_bound.specs.declared.levels.LevelCert.{LevelCert}
 
-abbrev pub proofs_of : LevelCert → Certificate
-proofs_of c = layers_proofs c.level c.blocks c.layers.items
+abbrev pub level_certificate : LevelCert → Certificate
+level_certificate c = layers_certificate c.level c.blocks c.layers.items
 
 -- an accepted certificate with the bound that it shows
 pub record IsCert (m : Rules) (targets : List ℤ) (c : LevelCert) : Type 0 where
-  pub accepted : IsAccepted m targets (proofs_of c)
-  pub bound : c.bound ≡ value m targets (proofs_of c)
+  pub accepted : IsAccepted m targets (level_certificate c)
+  pub bound : c.bound ≡ value m targets (level_certificate c)
 
 -- what the certificate of a segment of so many blocks has, where `most` is the sum that is to be beaten
 pub record IsShown (m : Rules) (targets : List ℤ) (blocks most share : ℕ) (c : LevelCert) : Type 0 where
   pub blocks_are : c.blocks ≡ blocks
   -- it is the natural one, unless it is of the floors alone
-  pub searched : c.level ≢ 255 → IsSearched m targets most (proofs_of c)
+  pub searched : c.level ≢ 255 → IsSearched m targets most (level_certificate c)
   pub none_listed : c.level ≡ 255 → length c.layers.items ≡ 0
   pub cert : IsCert m targets c
   -- it lists at most `share` cells

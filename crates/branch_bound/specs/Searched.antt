@@ -1,5 +1,5 @@
 -- What a search shows of a segment.
-use Rattle.std.specs.Prelude.{◌≡◌, ℕ, ◌≤◌, ◌<◌, ◌⊎◌, ℤ, List, Option, Some, min}
+use Rattle.std.specs.Prelude.{◌≡◌, ℕ, ◌≤◌, ◌<◌, ◌⊎◌, ℤ, List, length, Some, min, ◌/◌}
 use Rattle.machine_core.specs.declared.boxes.Cell.{Cell}
 use Rattle.machine_core.specs.declared.choice.Choice.{Choice}
 use Rattle.machine_core.specs.Blocks.{Blocks, IsLegal, first_only}
@@ -37,3 +37,7 @@ IsLevel m targets blocks most share level =
     ⊎ (((blocks ≤ 64) × (level ≡ 4) × IsMany m targets blocks 0 most share × IsFew m targets blocks 4 most share)
     ⊎ (((blocks ≤ 64) × (level ≡ 8) × IsMany m targets blocks 0 most share × IsMany m targets blocks 4 most share × IsFew m targets blocks 8 most share)
     ⊎ ((level ≡ 255) × ((64 < blocks) ⊎ (IsMany m targets blocks 0 most share × IsMany m targets blocks 4 most share × IsMany m targets blocks 8 most share)))))
+
+-- how many blocks these targets are
+abbrev pub blocks_in : Rules → List ℤ → ℕ
+blocks_in m targets = length targets / m.decoder.samples

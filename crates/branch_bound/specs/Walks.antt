@@ -1,10 +1,10 @@
 -- A least list, sample by sample.
-use Rattle.std.specs.Prelude.{◌≡◌, ℕ, zero, suc, ◌+◌, ◌-◌, ◌*◌, ◌/◌, ◌%◌, ◌<◌, ◌≤◌, ℤ, List, length, get_or, Some, Vec, true, IsTrue}
+use Rattle.std.specs.Prelude.{◌≡◌, ℕ, zero, suc, ◌+◌, ◌*◌, ◌/◌, ◌%◌, ◌<◌, ◌≤◌, ℤ, List, length, get_or, Some, Vec, true}
 use Rattle.std.specs.declared.alloc.Global.{Global}
 use Rattle.open_cells.specs.Nodes.{listed_in, IsRising}
 use Rattle.open_cells.specs.declared.node.Node.{Node}
 use Rattle.open_cells.specs.Counts.{nodes_at}
-use Rattle.branch_bound.specs.Worth.{layers_proofs}
+use Rattle.branch_bound.specs.Worth.{layers_certificate}
 use Rattle.box_layers.specs.Certificates.{IsAccepted, lane_at}
 use Rattle.branch_bound.specs.Searched.{IsSearched}
 use Rattle.machine_core.specs.Blocks.{Blocks, first_only, rule_of, state_at}
@@ -46,5 +46,5 @@ pub record IsWalk (m : Rules) (targets : List ℤ) (blocks most total : ℕ) (la
 -- the layers that a list is walked through
 pub record IsGround (m : Rules) (targets : List ℤ) (blocks most : ℕ) (layers : List (Vec Node Global)) : Type 0 where
   pub rising : (i : ℕ) → IsRising (nodes_at layers i)
-  pub searched : IsSearched m targets most (layers_proofs 0 blocks layers)
-  pub accepted : IsAccepted m targets (layers_proofs 0 blocks layers)
+  pub searched : IsSearched m targets most (layers_certificate 0 blocks layers)
+  pub accepted : IsAccepted m targets (layers_certificate 0 blocks layers)

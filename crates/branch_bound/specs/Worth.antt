@@ -1,5 +1,5 @@
 -- What listed cells are worth, layer by layer from the end.
-use Rattle.std.specs.Prelude.{◌≡◌, ℕ, zero, suc, ◌+◌, ◌-◌, ◌*◌, ◌<◌, ◌≤◌, ℤ, pos, List, [], ◌∷◌, length, Vec, min, map, IsTrue, slice_index_or}
+use Rattle.std.specs.Prelude.{◌≡◌, ℕ, zero, suc, ◌-◌, ◌*◌, ◌<◌, ℤ, List, [], length, Vec, min, map, IsTrue, slice_index_or}
 use Rattle.std.specs.declared.alloc.Global.{Global}
 use Rattle.open_cells.specs.declared.node.Node.{Node}
 use Rattle.open_cells.specs.Nodes.{listed_in, IsRising}
@@ -24,12 +24,12 @@ abbrev pub row_worth : List Node → ℕ → ℕ → Cell → Cell → ℕ → �
 row_worth next lane unlisted low high x = least (span_count low.b high.b) (cell_worth next lane unlisted low x) top
 
 -- one layer as a certificate
-abbrev pub layer_proofs : ℕ → ℕ → List Node → Certificate
-layer_proofs level blocks next = record { level = level; blocks = blocks; listed = λ i. listed_in next }
+abbrev pub layer_certificate : ℕ → ℕ → List Node → Certificate
+layer_certificate level blocks next = record { level = level; blocks = blocks; listed = λ i. listed_in next }
 
 -- all layers as a certificate
-abbrev pub layers_proofs : ℕ → ℕ → List (Vec Node Global) → Certificate
-layers_proofs level blocks layers = record { level = level; blocks = blocks; listed = λ i. listed_in (nodes_at layers i) }
+abbrev pub layers_certificate : ℕ → ℕ → List (Vec Node Global) → Certificate
+layers_certificate level blocks layers = record { level = level; blocks = blocks; listed = λ i. listed_in (nodes_at layers i) }
 
 -- the sample in work, with its block's tables
 pub record IsHere (m : Rules) (s : Search) (at : Spot) : Type 0 where
@@ -39,7 +39,7 @@ pub record IsHere (m : Rules) (s : Search) (at : Spot) : Type 0 where
 
 -- a node with what its cell is worth before the layer `next`
 abbrev pub valued : Rules → List ℤ → ℕ → ℕ → ℕ → ℕ → List Node → Node → Node
-valued m targets blocks level most i next x = record { lane = x.lane; cell = x.cell; cost = min most (found m targets (layer_proofs level blocks next) i x.lane x.cell) }
+valued m targets blocks level most i next x = record { lane = x.lane; cell = x.cell; cost = min most (found m targets (layer_certificate level blocks next) i x.lane x.cell) }
 
 -- each layer has the cells of a front, with what they are worth before the next layer
 pub record AreValued (m : Rules) (targets : List ℤ) (blocks level most : ℕ) (fronts layers : List (Vec Node Global)) : Type 0 where

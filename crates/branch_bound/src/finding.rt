@@ -5,7 +5,7 @@ ghost use Rattle.machine_core.specs.Floors.{top};
 ghost use Rattle.machine_core.specs.Rules.{grid};
 ghost use Rattle.open_cells.specs.Nodes.{IsRising};
 ghost use Rattle.open_cells.specs.Reach.{IsSearch};
-ghost use Rattle.branch_bound.specs.Worth.{AllBoxes, IsHere, layer_proofs};
+ghost use Rattle.branch_bound.specs.Worth.{AllBoxes, IsHere, layer_certificate};
 
 use crate::looks::least_of_box;
 use block_steps::{Spot, lane_head, lane_of, next_spot, rest_of, symbols_within, takes};
@@ -19,7 +19,7 @@ fn ahead<M: Machine>(machine: &M, s: &Search<'_>, at: Spot, head: u32, bx: Bx, n
     requires head { head < (M.rules machine.now).decoder.heads }
     requires bx { IsTrue ((M.rules machine.now).is_box (suc at.index % (M.rules machine.now).decoder.samples) bx) }
     requires rising { IsRising next.now }
-    ensures { result ≡ look_ahead (M.rules machine.now) s.now.targets.now (layer_proofs s.now.level s.now.blocks next.now) (suc at.index) (lane_at (M.rules machine.now) head (suc at.index)) bx }
+    ensures { result ≡ look_ahead (M.rules machine.now) s.now.targets.now (layer_certificate s.now.level s.now.blocks next.now) (suc at.index) (lane_at (M.rules machine.now) head (suc at.index)) bx }
 {
     let after = next_spot(machine, at);
     if after.index == s.end {
@@ -48,7 +48,7 @@ fn least_way<M: Machine>(
     requires head { head < (M.rules machine.now).decoder.heads }
     requires pieces { AllBoxes (M.rules machine.now) (suc at.index % (M.rules machine.now).decoder.samples) pieces.now }
     requires rising { IsRising next.now }
-    ensures { result ≡ least_piece pieces.now (way (M.rules machine.now) s.now.targets.now (layer_proofs s.now.level s.now.blocks next.now) at.index head) top }
+    ensures { result ≡ least_piece pieces.now (way (M.rules machine.now) s.now.targets.now (layer_certificate s.now.level s.now.blocks next.now) at.index head) top }
 {
     let mut best = u64::MAX;
     for q in pieces {
@@ -76,7 +76,7 @@ pub fn symbol_found<M: Machine>(
     requires head { head < (M.rules machine.now).decoder.heads }
     requires sym { sym < (M.rules machine.now).decoder.symbols (at.index % (M.rules machine.now).decoder.samples) }
     requires rising { IsRising next.now }
-    ensures { result ≡ by_symbol (M.rules machine.now) s.now.targets.now (layer_proofs s.now.level s.now.blocks next.now) at.index cell head sym }
+    ensures { result ≡ by_symbol (M.rules machine.now) s.now.targets.now (layer_certificate s.now.level s.now.blocks next.now) at.index cell head sym }
 {
     let pieces = pieces_of(machine, s, at, cell, head, sym);
     least_way(machine, s, at, head, pieces.list.as_slice(), next)
@@ -97,7 +97,7 @@ pub fn head_way<M: Machine>(
     requires cell { IsTrue (is_cell (grid (M.rules machine.now)) s.now.level cell) }
     requires head { head < (M.rules machine.now).decoder.heads }
     requires rising { IsRising next.now }
-    ensures { result ≡ min (s.now.most - 1 + 1) (by_head (M.rules machine.now) s.now.targets.now (layer_proofs s.now.level s.now.blocks next.now) at.index cell head) }
+    ensures { result ≡ min (s.now.most - 1 + 1) (by_head (M.rules machine.now) s.now.targets.now (layer_certificate s.now.level s.now.blocks next.now) at.index cell head) }
 {
     let slack = s.most.saturating_sub(1);
     let mut best = slack + 1;
@@ -123,7 +123,7 @@ fn lane_way<M: Machine>(
     requires cell { IsTrue (is_cell (grid (M.rules machine.now)) s.now.level cell) }
     requires head { head < (M.rules machine.now).decoder.heads }
     requires rising { IsRising next.now }
-    ensures { result ≡ min (s.now.most - 1 + 1) (head_found (M.rules machine.now) s.now.targets.now (layer_proofs s.now.level s.now.blocks next.now) at.index lane cell head) }
+    ensures { result ≡ min (s.now.most - 1 + 1) (head_found (M.rules machine.now) s.now.targets.now (layer_certificate s.now.level s.now.blocks next.now) at.index lane cell head) }
 {
     if takes(machine, at, lane, head) {
         head_way(machine, s, at, cell, head, next)
@@ -146,7 +146,7 @@ fn find_first<M: Machine>(
     requires at { IsHere (M.rules machine.now) s.now at }
     requires cell { IsTrue (is_cell (grid (M.rules machine.now)) s.now.level cell) }
     requires rising { IsRising next.now }
-    ensures { result ≡ min (s.now.most - 1 + 1) (found (M.rules machine.now) s.now.targets.now (layer_proofs s.now.level s.now.blocks next.now) at.index lane cell) }
+    ensures { result ≡ min (s.now.most - 1 + 1) (found (M.rules machine.now) s.now.targets.now (layer_certificate s.now.level s.now.blocks next.now) at.index lane cell) }
 {
     let mut best = s.most.saturating_sub(1) + 1;
     for h in 0..machine.heads() {
@@ -168,7 +168,7 @@ fn find<M: Machine>(
     requires at { IsHere (M.rules machine.now) s.now at }
     requires cell { IsTrue (is_cell (grid (M.rules machine.now)) s.now.level cell) }
     requires rising { IsRising next.now }
-    ensures { result ≡ min (s.now.most - 1 + 1) (found (M.rules machine.now) s.now.targets.now (layer_proofs s.now.level s.now.blocks next.now) at.index lane cell) }
+    ensures { result ≡ min (s.now.most - 1 + 1) (found (M.rules machine.now) s.now.targets.now (layer_certificate s.now.level s.now.blocks next.now) at.index lane cell) }
 {
     if at.place == 0 {
         return find_first(machine, s, at, lane, cell, next);
@@ -192,7 +192,7 @@ pub fn worth_at<M: Machine>(
     requires at { IsHere (M.rules machine.now) s.now at }
     requires cell { IsTrue (is_cell (grid (M.rules machine.now)) s.now.level cell) }
     requires rising { IsRising next.now }
-    ensures { result ≡ min s.now.most (found (M.rules machine.now) s.now.targets.now (layer_proofs s.now.level s.now.blocks next.now) at.index lane cell) }
+    ensures { result ≡ min s.now.most (found (M.rules machine.now) s.now.targets.now (layer_certificate s.now.level s.now.blocks next.now) at.index lane cell) }
 {
     s.most.min(find(machine, s, at, lane, cell, next))
 }

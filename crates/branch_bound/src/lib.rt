@@ -7,9 +7,7 @@ mod keyed;
 mod levels;
 mod looks;
 mod searching;
+mod top;
 mod walking;
 
-pub use keyed::all_keyed;
-pub use levels::{LevelCert, search_levels};
-pub use searching::{Search, search_segment};
-pub use walking::walk;
+pub use top::{Found, bound_search};

@@ -19,7 +19,7 @@ use std::alloc::Global;
 
 /// What a search of a segment finds: a choice, and what it shows at the segment's level.
 #[derive(Drop)]
-pub struct Search {
+pub struct SegmentFound {
     /// The choice.
     pub choice: Choice,
     /// What is shown.
@@ -99,7 +99,7 @@ pub fn search_segment<M: Machine>(
     blocks: u32,
     best: Choice,
     share: u32,
-) -> Result<Search, NoMemory>
+) -> Result<SegmentFound, NoMemory>
     requires blocks { 0 < blocks }
     requires fit { FitTargets (M.rules machine.now) blocks targets.now }
     requires small { blocks * (M.rules machine.now).decoder.samples < 2 ^ 31 }
@@ -154,5 +154,5 @@ pub fn search_segment<M: Machine>(
         Ok(c) => c,
         Err(e) => return Err(e),
     };
-    Ok(Search { choice, cert })
+    Ok(SegmentFound { choice, cert })
 }

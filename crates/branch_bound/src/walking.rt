@@ -13,7 +13,7 @@ ghost use Rattle.open_cells.specs.Paths.{FitTargets};
 ghost use Rattle.open_cells.specs.Reach.{IsSearch};
 ghost use Rattle.branch_bound.specs.Searched.{IsChoice};
 ghost use Rattle.branch_bound.specs.Walks.{IsGround};
-ghost use Rattle.branch_bound.specs.Worth.{IsHere, layer_proofs};
+ghost use Rattle.branch_bound.specs.Worth.{IsHere, layer_certificate};
 
 use crate::backward::{layer_at, ready_for};
 use crate::finding::{head_way, symbol_found};
@@ -39,8 +39,8 @@ fn comes_to<M: Machine>(
     requires head { head < (M.rules machine.now).decoder.heads }
     requires rising { IsRising next.now }
     requires small { left < s.now.most }
-    ensures way { result ≡ true → by_head (M.rules machine.now) s.now.targets.now (layer_proofs s.now.level s.now.blocks next.now) at.index cell head ≡ left }
-    ensures other { result ≡ false → by_head (M.rules machine.now) s.now.targets.now (layer_proofs s.now.level s.now.blocks next.now) at.index cell head ≢ left }
+    ensures way { result ≡ true → by_head (M.rules machine.now) s.now.targets.now (layer_certificate s.now.level s.now.blocks next.now) at.index cell head ≡ left }
+    ensures other { result ≡ false → by_head (M.rules machine.now) s.now.targets.now (layer_certificate s.now.level s.now.blocks next.now) at.index cell head ≢ left }
 {
     head_way(machine, s, at, cell, head, next) == left
 }
@@ -59,11 +59,11 @@ fn pick_head<M: Machine>(
     requires at { IsHere (M.rules machine.now) s.now at }
     requires cell { IsTrue (is_cell (grid (M.rules machine.now)) s.now.level cell) }
     requires rising { IsRising next.now }
-    requires left { found (M.rules machine.now) s.now.targets.now (layer_proofs s.now.level s.now.blocks next.now) at.index lane cell ≡ left }
+    requires left { found (M.rules machine.now) s.now.targets.now (layer_certificate s.now.level s.now.blocks next.now) at.index lane cell ≡ left }
     requires small { left < s.now.most }
     ensures head { result < (M.rules machine.now).decoder.heads }
     ensures takes { may_take (M.rules machine.now) first_only at.index lane result ≡ true }
-    ensures way { by_head (M.rules machine.now) s.now.targets.now (layer_proofs s.now.level s.now.blocks next.now) at.index cell result ≡ left }
+    ensures way { by_head (M.rules machine.now) s.now.targets.now (layer_certificate s.now.level s.now.blocks next.now) at.index cell result ≡ left }
 {
     for h in 0..machine.heads() {
         if takes(machine, at, lane, h) {
@@ -90,10 +90,10 @@ fn pick_symbol<M: Machine>(
     requires cell { IsTrue (is_cell (grid (M.rules machine.now)) s.now.level cell) }
     requires head { head < (M.rules machine.now).decoder.heads }
     requires rising { IsRising next.now }
-    requires left { by_head (M.rules machine.now) s.now.targets.now (layer_proofs s.now.level s.now.blocks next.now) at.index cell head ≡ left }
+    requires left { by_head (M.rules machine.now) s.now.targets.now (layer_certificate s.now.level s.now.blocks next.now) at.index cell head ≡ left }
     requires small { left < s.now.most }
     ensures symbol { result < (M.rules machine.now).decoder.symbols (at.index % (M.rules machine.now).decoder.samples) }
-    ensures way { by_symbol (M.rules machine.now) s.now.targets.now (layer_proofs s.now.level s.now.blocks next.now) at.index cell head result ≡ left }
+    ensures way { by_symbol (M.rules machine.now) s.now.targets.now (layer_certificate s.now.level s.now.blocks next.now) at.index cell head result ≡ left }
 {
     let (first, end) = symbols_within(machine, s.targets, at, left);
     for sym in first..end {
@@ -119,11 +119,11 @@ fn next_head<M: Machine>(
     requires head { 0 < at.place → head < (M.rules machine.now).decoder.heads }
     requires cell { IsTrue (is_cell (grid (M.rules machine.now)) s.now.level cell) }
     requires rising { IsRising next.now }
-    requires left { found (M.rules machine.now) s.now.targets.now (layer_proofs s.now.level s.now.blocks next.now) at.index (lane_at (M.rules machine.now) head at.index) cell ≡ left }
+    requires left { found (M.rules machine.now) s.now.targets.now (layer_certificate s.now.level s.now.blocks next.now) at.index (lane_at (M.rules machine.now) head at.index) cell ≡ left }
     requires small { left < s.now.most }
     ensures head { result < (M.rules machine.now).decoder.heads }
     ensures takes { may_take (M.rules machine.now) first_only at.index (lane_at (M.rules machine.now) head at.index) result ≡ true }
-    ensures way { by_head (M.rules machine.now) s.now.targets.now (layer_proofs s.now.level s.now.blocks next.now) at.index cell result ≡ left }
+    ensures way { by_head (M.rules machine.now) s.now.targets.now (layer_certificate s.now.level s.now.blocks next.now) at.index cell result ≡ left }
     ensures same { 0 < at.place → result ≡ head }
 {
     if at.place == 0 {

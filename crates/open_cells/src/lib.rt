@@ -19,5 +19,3 @@ pub use looking::listed;
 pub use node::{Halt, Node};
 pub use relaxing::pieces_of;
 pub use search::Search;
-pub use sorting::{add, merge};
-pub use stepping::next_layer;

@@ -1,8 +1,7 @@
-use Rattle.std.proofs.Common.{◌≡◌, ℕ, suc, arith, ap, sym, ◌∙◌, ◌<◌, ◌≤◌, ◌*◌, ◌+◌, ◌-◌, length, subst, List, refl, get_or}
+use Rattle.std.proofs.Common.{arith, ap, sym, ◌∙◌, ◌<◌, ◌*◌, length, subst, List}
 use Rattle.open_cells.specs.declared.node.Node.{Node}
 use Rattle.open_cells.specs.Nodes.{IsRising}
 use Rattle.open_cells.specs.Reach.{IsFront}
-use Rattle.open_cells.specs.Counts.{nodes_at}
 use Rattle.open_cells.proofs.Built.{nodes-get}
 use Rattle.branch_bound.specs.Worth.{prior}
 use Rattle.branch_bound.proofs.Values.{prior-rising, backed-more, values-all}

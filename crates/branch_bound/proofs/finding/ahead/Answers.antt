@@ -1,4 +1,4 @@
-use Rattle.std.proofs.Common.{◌≡◌, ◌≢◌, suc, arith, ap, sym, ◌∙◌, ◌*◌, ◌%◌, subst}
+use Rattle.std.proofs.Common.{suc, ap, sym, ◌∙◌, ◌%◌, subst}
 use Rattle.branch_bound.proofs.Look.{ahead-is}
 use Rattle.std.proofs.Math.Nat.{mod-lt}
 use Rattle.machine_core.specs.declared.boxes.Cell.{Cell}

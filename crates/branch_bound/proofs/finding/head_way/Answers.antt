@@ -1,9 +1,9 @@
-use Rattle.std.proofs.Common.{◌≡◌, ℕ, suc, ◌+◌, ◌-◌, ◌<◌, ◌≤◌, arith, ap, ◌∙◌, subst, get_or, pos, length}
+use Rattle.std.proofs.Common.{◌≡◌, ℕ, suc, ◌+◌, ◌-◌, ◌<◌, arith, ap, ◌∙◌, subst, get_or, pos}
 use Rattle.adpcm_nums.specs.LeastValue.{least}
 use Rattle.box_layers.specs.Certificates.{by_symbol}
 use Rattle.machine_core.specs.Floors.{top}
 use Rattle.open_cells.proofs.Pieces.{laws-of}
-use Rattle.branch_bound.specs.Worth.{layer_proofs}
+use Rattle.branch_bound.specs.Worth.{layer_certificate}
 use Rattle.branch_bound.proofs.Capped.{symbols-init, symbols-done}
 use Rattle.branch_bound.proofs.finding.head_way.Goals as goal
 
@@ -18,7 +18,7 @@ loop-sym-init g c =
     let slack = c.saturating_sub-slack.result in
     let e : slack ≡ s.most - 1 = c.saturating_sub-slack.ensures in
     let small : slack < top = omega arith in
-    let f = by_symbol m s.targets.now (layer_proofs s.level s.blocks c.args.next.now) c.args.at.index c.args.cell c.args.head in
+    let f = by_symbol m s.targets.now (layer_certificate s.level s.blocks c.args.next.now) c.args.at.index c.args.cell c.args.head in
     let i = symbols-init m (laws-of m (g.met.M.Machine.lawful c.args.machine.now) (g.met.M.Machine.boxed c.args.machine.now) c.requires.search) s c.args.at c.args.next.now c.args.cell c.args.head slack c.symbols_within-first.result.0 c.requires.search c.requires.at c.requires.cell c.requires.head small c.symbols_within-first.ensures.first in
     record { best = subst (λ (z : ℕ). slack + 1 ≡ least c.symbols_within-first.result.0 f (z + 1)) e i.0; within = i.1 }
 

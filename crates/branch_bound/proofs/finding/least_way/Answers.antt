@@ -1,5 +1,5 @@
-use Rattle.std.proofs.Common.{sym, ◌∙◌, subst, List, ap, arith, ◌≡◌, ◌≤◌, min, ◌+◌, drop, pos, get_or}
-use Rattle.branch_bound.specs.Worth.{layer_proofs}
+use Rattle.std.proofs.Common.{◌∙◌, ap, arith, ◌≡◌, ◌≤◌, min, ◌+◌, drop, get_or}
+use Rattle.branch_bound.specs.Worth.{layer_certificate}
 use Rattle.branch_bound.proofs.Look.{piece-more}
 use Rattle.branch_bound.proofs.finding.least_way.Goals as goal
 use Rattle.box_layers.specs.Certificates.{least_piece, way}
@@ -10,7 +10,7 @@ pub loop-q-preserved : goal.loop-q-preserved
 loop-q-preserved g c =
     let m = g.M.Machine.rules c.args.machine.now in
     let s = c.args.s.now in
-    let f = way m s.targets.now (layer_proofs s.level s.blocks c.args.next.now) c.args.at.index c.args.head in
+    let f = way m s.targets.now (layer_certificate s.level s.blocks c.args.next.now) c.args.at.index c.args.head in
     let z = c.q-item.result in
     let a = c.ahead.ensures in let b = c.saturating_add.ensures in let d = c.min-best.ensures in
     let small : c.loop-q.best ≤ top = c.loop-q.invariant.1 in

@@ -1,4 +1,4 @@
-use Rattle.std.proofs.Common.{sym, ◌∙◌, ap, ◌≡◌}
+use Rattle.std.proofs.Common.{◌∙◌}
 use Rattle.branch_bound.proofs.Look.{boxes-here}
 use Rattle.open_cells.proofs.Pieces.{laws-of}
 use Rattle.branch_bound.proofs.finding.symbol_found.Goals as goal

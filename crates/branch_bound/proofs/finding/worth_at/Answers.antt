@@ -1,4 +1,4 @@
-use Rattle.std.proofs.Common.{◌≡◌, ℕ, ◌+◌, ◌-◌, ap, ◌∙◌, min}
+use Rattle.std.proofs.Common.{ap, ◌∙◌, min}
 use Rattle.branch_bound.proofs.Capped.{capped-most}
 use Rattle.branch_bound.proofs.finding.worth_at.Goals as goal
 

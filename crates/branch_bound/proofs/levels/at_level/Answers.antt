@@ -1,4 +1,4 @@
-use Rattle.std.proofs.Common.{◌≡◌, ◌≤◌, arith, ap, sym, ◌∙◌, subst, List, refl}
+use Rattle.std.proofs.Common.{◌≤◌, arith, ap, sym, ◌∙◌, subst, List, refl}
 use Rattle.machine_core.specs.Floors.{top}
 use Rattle.open_cells.specs.declared.node.Node.{Node}
 use Rattle.open_cells.specs.Nodes.{IsRising, listed_in}

@@ -1,4 +1,4 @@
-use Rattle.std.proofs.Common.{◌≡◌, ◌≤◌, arith, ap, sym, ◌∙◌, Some, None, List, refl}
+use Rattle.std.proofs.Common.{◌≡◌, arith, ap, sym, ◌∙◌, Some, None, List, refl}
 use Rattle.open_cells.specs.declared.node.Node.{Node}
 use Rattle.open_cells.specs.Nodes.{listed_in}
 use Rattle.open_cells.specs.Counts.{nodes_at}

@@ -1,4 +1,4 @@
-use Rattle.std.proofs.Common.{◌≡◌, ◌≤◌, arith, ap, sym, ◌∙◌, refl}
+use Rattle.std.proofs.Common.{◌≤◌, arith, refl}
 use Rattle.machine_core.specs.Floors.{top}
 use Rattle.open_cells.specs.Paths.{HasLaws}
 use Rattle.branch_bound.proofs.Shown.{cert-near, bound-below, level-at}

@@ -1,4 +1,3 @@
-use Rattle.std.proofs.Common.{◌≡◌, ◌≢◌, arith}
 use Rattle.std.proofs.lemmas.Bool.{eqb-true, eqb-false}
 use Rattle.branch_bound.proofs.Picks.{capped-way, capped-other}
 use Rattle.branch_bound.proofs.walking.comes_to.Goals as goal

@@ -1,5 +1,5 @@
-use Rattle.std.proofs.Common.{◌≡◌, ℕ, ◌<◌, ◌≤◌, arith, ap, sym, ◌∙◌}
-use Rattle.branch_bound.specs.Worth.{layer_proofs}
+use Rattle.std.proofs.Common.{◌<◌, arith}
+use Rattle.branch_bound.specs.Worth.{layer_certificate}
 use Rattle.branch_bound.proofs.Picks.{never-found}
 use Rattle.branch_bound.proofs.walking.pick_head.Goals as goal
 use Rattle.machine_core.specs.Floors.{top}
@@ -11,7 +11,7 @@ returns-clause-head g c =
     let most = c.requires.search.most in let less = c.requires.small in
     let small : c.args.left < top = omega arith in
     let e = c.heads-h-end.ensures in let t = c.loop-h-test.false in
-    absurd (never-found m.decoder.heads (head_found m s.targets.now (layer_proofs s.level s.blocks c.args.next.now) c.args.at.index c.args.lane c.args.cell) c.args.left c.requires.left small
+    absurd (never-found m.decoder.heads (head_found m s.targets.now (layer_certificate s.level s.blocks c.args.next.now) c.args.at.index c.args.lane c.args.cell) c.args.left c.requires.left small
     (λ k h. c.loop-h.invariant k (omega arith)))
 
 pub returns-clause-takes : goal.returns-clause-takes
@@ -20,7 +20,7 @@ returns-clause-takes g c =
     let most = c.requires.search.most in let less = c.requires.small in
     let small : c.args.left < top = omega arith in
     let e = c.heads-h-end.ensures in let t = c.loop-h-test.false in
-    absurd (never-found m.decoder.heads (head_found m s.targets.now (layer_proofs s.level s.blocks c.args.next.now) c.args.at.index c.args.lane c.args.cell) c.args.left c.requires.left small
+    absurd (never-found m.decoder.heads (head_found m s.targets.now (layer_certificate s.level s.blocks c.args.next.now) c.args.at.index c.args.lane c.args.cell) c.args.left c.requires.left small
     (λ k h. c.loop-h.invariant k (omega arith)))
 
 pub returns-clause-way : goal.returns-clause-way
@@ -29,5 +29,5 @@ returns-clause-way g c =
     let most = c.requires.search.most in let less = c.requires.small in
     let small : c.args.left < top = omega arith in
     let e = c.heads-h-end.ensures in let t = c.loop-h-test.false in
-    absurd (never-found m.decoder.heads (head_found m s.targets.now (layer_proofs s.level s.blocks c.args.next.now) c.args.at.index c.args.lane c.args.cell) c.args.left c.requires.left small
+    absurd (never-found m.decoder.heads (head_found m s.targets.now (layer_certificate s.level s.blocks c.args.next.now) c.args.at.index c.args.lane c.args.cell) c.args.left c.requires.left small
     (λ k h. c.loop-h.invariant k (omega arith)))

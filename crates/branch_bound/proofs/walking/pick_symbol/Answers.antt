@@ -1,8 +1,8 @@
-use Rattle.std.proofs.Common.{◌≡◌, ◌≢◌, ℕ, ◌<◌, ◌≤◌, arith, ap, sym, ◌∙◌, ◌%◌, length}
+use Rattle.std.proofs.Common.{◌<◌, arith, ap, ◌%◌}
 use Rattle.machine_core.specs.Floors.{top}
 use Rattle.box_layers.specs.Certificates.{by_symbol}
 use Rattle.open_cells.proofs.Pieces.{laws-of}
-use Rattle.branch_bound.specs.Worth.{layer_proofs}
+use Rattle.branch_bound.specs.Worth.{layer_certificate}
 use Rattle.branch_bound.proofs.Capped.{before-first, behind-last}
 use Rattle.branch_bound.proofs.Picks.{never-found}
 use Rattle.branch_bound.proofs.walking.pick_symbol.Goals as goal
@@ -29,6 +29,6 @@ returns-clause-way g c =
     let m = g.M.Machine.rules c.args.machine.now in let s = c.args.s.now in
     let most = c.requires.search.most in let less = c.requires.small in let t = c.loop-sym-test.false in
     let small : c.args.left < top = omega arith in
-    absurd (never-found (m.decoder.symbols (c.args.at.index % m.decoder.samples)) (by_symbol m s.targets.now (layer_proofs s.level s.blocks c.args.next.now) c.args.at.index c.args.cell c.args.head) c.args.left c.requires.left small
+    absurd (never-found (m.decoder.symbols (c.args.at.index % m.decoder.samples)) (by_symbol m s.targets.now (layer_certificate s.level s.blocks c.args.next.now) c.args.at.index c.args.cell c.args.head) c.args.left c.requires.left small
     (behind-last m (laws-of m (g.met.M.Machine.lawful c.args.machine.now) (g.met.M.Machine.boxed c.args.machine.now) c.requires.search) s c.args.at c.args.next.now c.args.cell c.args.head c.args.left c.symbols_within-first.result.1 c.loop-sym.sym
     c.requires.search c.requires.at c.requires.cell c.requires.head small c.symbols_within-first.ensures.end (omega arith) c.loop-sym.invariant))

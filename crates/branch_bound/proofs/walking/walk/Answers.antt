@@ -1,12 +1,10 @@
-use Rattle.std.proofs.Common.{◌≡◌, ℕ, suc, arith, ap, sym, ◌∙◌, ◌<◌, ◌≤◌, ◌*◌, ◌+◌, ◌%◌, ◌-◌, length, subst, List, refl, get_or, IsTrue, pos, rules, w32}
+use Rattle.std.proofs.Common.{◌≡◌, ℕ, suc, arith, ap, sym, ◌∙◌, ◌<◌, ◌*◌, ◌+◌, ◌%◌, subst, refl, get_or, IsTrue, pos, rules, w32}
 use Rattle.std.proofs.lemmas.Int.{to_z-of_z}
 use mir.Val.{SFits}
 use Rattle.std.proofs.Math.Nat.{mod-lt}
 use Rattle.open_cells.specs.Counts.{nodes_at}
-use Rattle.branch_bound.specs.Walks.{IsWalk}
 use Rattle.branch_bound.proofs.Lists.{HeadsNow, heads-first, heads-later}
 use Rattle.branch_bound.proofs.Onward.{choice-of, IsTaken, found-at, walk-now, walk-at, walk-legal, begun-all}
-use Rattle.machine_core.specs.Floors.{top}
 use Rattle.machine_core.proofs.States.{is-sample-at}
 use Rattle.open_cells.specs.Paths.{HasLaws}
 use Rattle.machine_core.specs.declared.boxes.Cell.{Cell}

@@ -1,0 +1,95 @@
+ghost use Rattle.std.specs.Prelude.{◌≡◌, ◌≢◌, ◌*◌, ◌<◌, ◌≤◌, ◌^◌, ℕ, IfOk, length, Some};
+ghost use Rattle.bound_cert.specs.Filed.{IsFiled};
+ghost use Rattle.bound_cert.specs.Spelling.{IsWritable};
+ghost use Rattle.box_layers.specs.Certificates.{IsAccepted, value};
+ghost use Rattle.cert_check.specs.Layers.{certificate_of};
+ghost use Rattle.machine_core.specs.Blocks.{Blocks, IsLegal, first_only};
+ghost use Rattle.machine_core.specs.Floors.{floors_from};
+ghost use Rattle.machine_core.specs.Sums.{sum_of};
+ghost use Rattle.open_cells.specs.Paths.{FitTargets, IsWhole};
+ghost use Rattle.branch_bound.specs.Keyed.{cell_total};
+ghost use Rattle.branch_bound.specs.Searched.{IsChoice, IsLevel, IsSearched, blocks_in};
+
+use crate::keyed::all_keyed;
+use crate::searching::search_segment;
+use adpcm_nums::NoMemory;
+use bound_cert::SegmentCert;
+use machine_core::{Choice, Machine};
+use std::alloc::Global;
+
+/// What is found for a segment.
+#[derive(Drop)]
+pub struct Found {
+    /// The choice, with its sum in squared 16-bit steps.
+    pub choice: Choice,
+    /// The certificate of a bound under the sum of every legal list.
+    pub cert: SegmentCert,
+}
+
+/// The number of blocks of a segment.
+fn blocks_of<M: Machine>(machine: &M, targets: &[i32]) -> u32
+    requires few { length targets.now ≤ 262144 }
+    ensures { result ≡ blocks_in (M.rules machine.now) targets.now }
+{
+    targets.len() as u32 / machine.block_samples()
+}
+
+/// Searches one segment for a bound near its least sum, and where it can for its least list (this project's own choice).
+///
+/// The level is the first of 0, 4 and 8 at which open paths reach at most `share` cells, in a segment of at most 64 blocks; where there is none,
+/// it is 255, and the bound is that of the floors alone. At level 0 the choice has the least sum of all legal lists, and the bound is that sum;
+/// `best` stays the choice where it has it, and at every other level. At levels 0, 4 and 8 the bound is at least the lesser of the sum of `best` and
+/// the least cost of a relaxed path to the segment's end. The certificate lists each reached cell, with the lesser of the sum of `best` and the
+/// least way on from it.
+///
+/// It refuses only for want of memory.
+pub fn bound_search<M: Machine>(
+    alloc: Global,
+    machine: &M,
+    targets: &[i32],
+    best: Choice,
+    share: u32,
+) -> Result<Found, NoMemory>
+    requires blocks { 0 < blocks_in (M.rules machine.now) targets.now }
+    requires few_blocks { blocks_in (M.rules machine.now) targets.now < 65536 }
+    requires fit { FitTargets (M.rules machine.now) (blocks_in (M.rules machine.now) targets.now) targets.now }
+    requires few { length targets.now ≤ 262144 }
+    requires filed { IsFiled (M.rules machine.now) }
+    requires room { (M.rules machine.now).decoder.heads * (M.rules machine.now).floor_len < 2 ^ 31 }
+    requires best { IsChoice (M.rules machine.now) (blocks_in (M.rules machine.now) targets.now) targets.now best }
+    ensures blocks { IfOk result (λ f. f.cert.blocks ≡ blocks_in (M.rules machine.now) targets.now) }
+    ensures level { IfOk result (λ f. IsLevel (M.rules machine.now) targets.now (blocks_in (M.rules machine.now) targets.now) best.sum share f.cert.level) }
+    ensures choice { IfOk result (λ f. IsChoice (M.rules machine.now) (blocks_in (M.rules machine.now) targets.now) targets.now f.choice) }
+    ensures least { IfOk result (λ f. f.cert.level ≡ 0 → (l : Blocks) → IsLegal (M.rules machine.now).decoder (blocks_in (M.rules machine.now) targets.now) first_only l
+        → f.choice.sum ≤ sum_of (M.rules machine.now).decoder l targets.now (blocks_in (M.rules machine.now) targets.now)) }
+    ensures kept { IfOk result (λ f. (f.cert.level ≡ 0 → f.choice.sum ≡ best.sum) → f.choice ≡ best) }
+    ensures optimal { IfOk result (λ f. f.cert.level ≡ 0 → f.cert.bound ≡ f.choice.sum) }
+    ensures near { IfOk result (λ f. f.cert.level ≢ 255 → (w : ℕ) → w ≤ best.sum
+        → ((cost : ℕ) → IsWhole (M.rules machine.now) targets.now (blocks_in (M.rules machine.now) targets.now) f.cert.level cost → w ≤ cost) → w ≤ f.cert.bound) }
+    ensures floor_only { IfOk result (λ f. f.cert.level ≡ 255 → f.cert.bound ≡ floors_from (M.rules machine.now) first_only targets.now 0 (blocks_in (M.rules machine.now) targets.now)) }
+    ensures writable { IfOk result (λ f. IsWritable (M.rules machine.now).kind (M.rules machine.now).decoder.samples f.cert) }
+    ensures few_cells { IfOk result (λ f. cell_total f.cert.layers ≤ share) }
+    ensures searched { IfOk result (λ f. f.cert.level ≢ 255 → IsSearched (M.rules machine.now) targets.now best.sum (certificate_of (M.rules machine.now) f.cert.layers f.cert.level f.cert.blocks)) }
+    ensures accepted { IfOk result (λ f. IsAccepted (M.rules machine.now) targets.now (certificate_of (M.rules machine.now) f.cert.layers f.cert.level f.cert.blocks)) }
+    ensures bound { IfOk result (λ f. f.cert.bound ≡ value (M.rules machine.now) targets.now (certificate_of (M.rules machine.now) f.cert.layers f.cert.level f.cert.blocks)) }
+{
+    let blocks = blocks_of(machine, targets);
+    let found = match search_segment(alloc, machine, targets, blocks, best, share) {
+        Ok(f) => f,
+        Err(e) => return Err(e),
+    };
+    let layers = match all_keyed(alloc, machine.block_samples(), found.cert.layers.as_slice()) {
+        Ok(v) => v,
+        Err(e) => return Err(e),
+    };
+    let cert = SegmentCert::new(
+        found.cert.blocks,
+        found.cert.level,
+        found.cert.bound,
+        layers,
+    );
+    Ok(Found {
+        choice: found.choice,
+        cert,
+    })
+}

@@ -152,7 +152,7 @@ pub fn walk<M: Machine>(
     requires room { (M.rules machine.now).decoder.heads * (M.rules machine.now).floor_len < 2 ^ 31 }
     requires later { HoldLater (M.rules machine.now) targets.now blocks later.now }
     requires rows { length rows.old ≡ (M.rules machine.now).decoder.heads * (M.rules machine.now).floor_len }
-    requires ground { IsGround (M.rules machine.now) targets.now blocks most layers.now }
+    requires grounds { IsGround (M.rules machine.now) targets.now blocks most layers.now }
     requires listed { listed_in (nodes_at layers.now 0) 65535 (cell_of (grid (M.rules machine.now)) 0 start) ≡ Some total }
     requires less { total < most }
     ensures choice { IfOk result (λ c. IsChoice (M.rules machine.now) blocks targets.now c) }

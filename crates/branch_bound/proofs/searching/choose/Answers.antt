@@ -43,8 +43,8 @@ returns-in-None-clause-optimal g c =
     let s = c.requires.best.sum in
     let above = bound-shut m c.args.targets.now cert c.args.best.sum laws le c.requires.shown.cert (c.requires.shown.searched (λ e. omega arith)) start_not in omega arith)
 
-pub walk-requires-clause-ground : goal.walk-requires-clause-ground
-walk-requires-clause-ground g c =
+pub walk-requires-clause-grounds : goal.walk-requires-clause-grounds
+walk-requires-clause-grounds g c =
     let m = g.M.Machine.rules c.args.machine.now in let cert = c.args.cert.now in
     let le = c.if-cert-ne0.false in
     subst (λ (z : List (Vec Node Global)). IsGround m c.args.targets.now c.args.blocks c.args.best.sum z) (sym c.as_slice-then-total-best.ensures.value) (ground-of m c.args.targets.now c.args.blocks c.args.best.sum c.args.share cert c.requires.shown (omega arith))

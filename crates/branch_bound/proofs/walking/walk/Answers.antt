@@ -22,7 +22,7 @@ next_head-head-requires-clause-left g c =
     let w = walk-at m c.args.targets.now c.args.blocks c.args.most c.args.total c.args.layers.now c.loop-i.heads.items c.loop-i.symbols.items c.loop-i.state c.loop-i.head c.loop-i.left c.loop-i.i c.loop-i.at.index (sym ix) c.loop-i.invariant.walk in
     let up : c.loop-i.i + 1 ≡ suc c.loop-i.at.index = omega arith in
     found-at m c.args.targets.now c.args.blocks c.args.most c.args.total c.args.layers.now c.loop-i.heads.items c.loop-i.symbols.items c.loop-i.at.index c.loop-i.head c.loop-i.left c.loop-i.state c.layer_at-next.result.now c.cell_of-cell.result
-    c.requires.ground w (omega arith) c.requires.less (c.layer_at-next.ensures ∙ ap (nodes_at c.args.layers.now) up) c.cell_of-cell.ensures
+    c.requires.grounds w (omega arith) c.requires.less (c.layer_at-next.ensures ∙ ap (nodes_at c.args.layers.now) up) c.cell_of-cell.ensures
 
 pub step-state-requires-clause-pos : goal.step-state-requires-clause-pos
 step-state-requires-clause-pos g c =
@@ -66,7 +66,7 @@ loop-i-preserved g c =
     record {
       walk = walk-now m c.args.targets.now c.args.blocks c.args.most c.args.total c.args.layers.now c.loop-i.heads.items c.if-at-eq0.heads.items c.loop-i.symbols.items c.push-in-loop-i.new.self.items c.loop-i.state c.step-state.result
           c.loop-i.head head c.pick_symbol-symbol.result c.loop-i.left c.saturating_sub-left.result i c.loop-i.at.place c.cost.result (c.loop-i.i + 1) c.target_at.result c.layer_at-next.result.now c.cell_of-cell.result
-          c.requires.ground w taken now c.next_head-head.ensures.takes c.pick_symbol-symbol.ensures.way c.requires.less (omega arith) within
+          c.requires.grounds w taken now c.next_head-head.ensures.takes c.pick_symbol-symbol.ensures.way c.requires.less (omega arith) within
           (c.layer_at-next.ensures ∙ ap (nodes_at c.args.layers.now) up) c.cell_of-cell.ensures c.in-Ok-push.ensures.items c.step-state.ensures p cost target c.saturating_sub-left.ensures up;
       state_ok = subst (λ z. IsTrue (m.decoder.is_state z)) (sym c.step-state.ensures) (laws.machine.steps head c.loop-i.at.place c.pick_symbol-symbol.result c.loop-i.state c.next_head-head.ensures.head (omega arith)
           (subst (λ (z : ℕ). c.pick_symbol-symbol.result < m.decoder.symbols z) (sym p) c.pick_symbol-symbol.ensures.symbol) c.loop-i.invariant.state_ok);

@@ -5,6 +5,7 @@ use box_layers::{CellValue, Key};
 use byteorder::{ByteOrder, LittleEndian};
 use machine_core::Cell;
 
+/// The number of two bytes at a place, low byte first. The bytes must reach that far; nothing is refused (this project's own file).
 #[tactic(auto, unfolding(crate::specs::Places::u16_at))]
 pub fn u16_in(bytes: &[u8], at: usize) -> u32
     requires { at + 2 ≤ length bytes.now }
@@ -14,6 +15,7 @@ pub fn u16_in(bytes: &[u8], at: usize) -> u32
     u32::from(LittleEndian::read_u16(&bytes[at..]))
 }
 
+/// The signed number of two bytes at a place, low byte first.
 #[tactic(auto, unfolding(crate::specs::Places::i16_at))]
 pub fn i16_in(bytes: &[u8], at: usize) -> i32
     requires { at + 2 ≤ length bytes.now }
@@ -24,6 +26,7 @@ pub fn i16_in(bytes: &[u8], at: usize) -> i32
     i32::from(LittleEndian::read_i16(&bytes[at..]))
 }
 
+/// The number of four bytes at a place, low byte first.
 #[tactic(auto, unfolding(crate::specs::Places::u32_at))]
 pub fn u32_in(bytes: &[u8], at: usize) -> u32
     requires { at + 4 ≤ length bytes.now }
@@ -32,6 +35,7 @@ pub fn u32_in(bytes: &[u8], at: usize) -> u32
     LittleEndian::read_u32(&bytes[at..])
 }
 
+/// The number of eight bytes at a place, low byte first.
 #[tactic(auto, unfolding(crate::specs::Places::u64_at))]
 pub fn u64_in(bytes: &[u8], at: usize) -> u64
     requires { at + 8 ≤ length bytes.now }
@@ -40,6 +44,7 @@ pub fn u64_in(bytes: &[u8], at: usize) -> u64
     LittleEndian::read_u64(&bytes[at..])
 }
 
+/// The cell whose two numbers, two bytes each, stand at a place.
 pub fn cell_in(bytes: &[u8], at: usize) -> Cell
     requires { at + 4 ≤ length bytes.now }
     ensures { result ≡ cell_at bytes.now at }
@@ -50,6 +55,7 @@ pub fn cell_in(bytes: &[u8], at: usize) -> Cell
     }
 }
 
+/// The cell at a place with its value, in squared 16-bit steps: twelve bytes.
 pub fn value_in(bytes: &[u8], at: usize) -> CellValue
     requires { at + 12 ≤ length bytes.now }
     ensures { result ≡ value_at bytes.now at }
@@ -60,6 +66,7 @@ pub fn value_in(bytes: &[u8], at: usize) -> CellValue
     }
 }
 
+/// The key of the layer at a place: block, place and lane, two bytes each.
 pub fn key_in(bytes: &[u8], at: usize) -> Key
     requires { at + 6 ≤ length bytes.now }
     ensures { result ≡ key_at bytes.now at }

@@ -5,6 +5,7 @@ use crate::shape::Limits;
 use box_layers::{Key, is_before, is_key_before};
 use machine_core::{Cell, Kind};
 
+/// The number that a file has for a format: 0 BRR, 1 SPU-ADPCM, 2 IMA ADPCM (this project's own choice).
 pub fn number_of(kind: Kind) -> u32
     ensures { result ≡ kind_number kind }
 {

@@ -40,6 +40,7 @@ fn width(level: u32) -> u32
     }
 }
 
+/// Whether a byte is a level: 0, 4 or 8, or 255 where only the floor is claimed.
 pub fn is_level_number(level: u32) -> bool
     ensures { result ≡ is_level_byte level }
 {
@@ -71,6 +72,7 @@ fn b_is_fit(kind: Kind, level: u32, b: i32) -> bool
     }
 }
 
+/// Whether a cell of a level may hold a state of the format.
 #[tactic(auto, unfolding(crate::specs::Ranges::cell_fits))]
 pub fn cell_is_fit(kind: Kind, level: u32, c: Cell) -> bool
     ensures { result ≡ cell_fits kind level c }
@@ -92,6 +94,7 @@ fn lane_is_fit(kind: Kind, place: u32, lane: u32) -> bool
     }
 }
 
+/// Whether a layer may have this key: its block, place and lane are the segment's.
 #[tactic(auto, unfolding(crate::specs::Ranges::key_fits))]
 pub fn key_is_fit(limits: Limits, key: Key) -> bool
     ensures { result ≡ key_fits limits key }
@@ -101,6 +104,7 @@ pub fn key_is_fit(limits: Limits, key: Key) -> bool
         && lane_is_fit(limits.kind, key.place, key.lane)
 }
 
+/// Whether a cell may follow the last one of its layer.
 pub fn cell_is_next(last: Option<Cell>, c: Cell) -> bool
     ensures { result ≡ cell_follows last c }
 {
@@ -110,6 +114,7 @@ pub fn cell_is_next(last: Option<Cell>, c: Cell) -> bool
     }
 }
 
+/// Whether a layer may follow the last one.
 pub fn key_is_next(last: Option<Key>, k: Key) -> bool
     ensures { result ≡ key_follows last k }
 {

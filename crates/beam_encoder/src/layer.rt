@@ -1,15 +1,16 @@
-ghost use Rattle.std.specs.Prelude.{◌≡◌, ◌<◌, ◌≤◌, ◌^◌, ◌++◌, IsTrue, IsNone, IfSome, IfOk, OnOk, List, length, take};
+ghost use Rattle.std.specs.Prelude.{◌≡◌, ◌<◌, ◌≤◌, ◌^◌, ◌++◌, IsTrue, IsNone, IfSome, OnOk, List, length, take, drop};
 ghost use Rattle.std.specs.List.{All};
 ghost use Rattle.beam_encoder.specs.declared.node.Node.{Node};
 ghost use Rattle.beam_encoder.specs.Near.{IsBlock, near_state, near_sum};
 ghost use Rattle.beam_encoder.specs.Kept.{sorted, ruled, extended, extensions};
 
 use crate::bounded::{limit_of, put};
+use crate::history::node_behind;
 use crate::near::near;
 use crate::node::Node;
 use adpcm_nums::NoMemory;
 use machine_core::{HeadRule, Machine, State};
-use std::alloc::Global;
+use page_pool::Pool;
 
 /// The state after a block under a head, each target with its nearest symbol, and what it costs, where that is less than `most`.
 fn after_under<M: Machine>(
@@ -102,25 +103,30 @@ fn extend<M: Machine>(
     Ok(())
 }
 
-/// The `width` first of all prefixes of a layer with one block more.
+/// The `width` first of all prefixes of the last layer with one block more, over what the list held before.
+///
+/// The last layer is what stands in `kept` from place `begin` on.
 pub(crate) fn next_layer<M: Machine>(
-    alloc: Global,
     machine: &M,
     rule: HeadRule,
     block: &[i32],
-    layer: &[Node],
+    kept: &Pool<Node>,
+    begin: usize,
     width: u32,
-) -> Result<Vec<Node>, NoMemory>
+    nodes: &mut Vec<Node>,
+) -> Result<(), NoMemory>
     requires width { 0 < width }
     requires block { IsBlock (M.rules machine.now).decoder block.now }
-    requires few { length layer.now < 2 ^ 32 }
-    requires fits { All (λ n. IsTrue ((M.rules machine.now).decoder.is_state n.state)) layer.now }
-    requires small { All (λ n. n.sum ≤ 2 ^ 60) layer.now }
-    ensures { IfOk result (λ v. v.items ≡ take width (sorted (extensions (M.rules machine.now).decoder rule block.now layer.now (length layer.now)))) }
+    requires begins { begin ≤ length kept.now.items }
+    requires few { length kept.now.items < 2 ^ 32 }
+    requires fits { All (λ n. IsTrue ((M.rules machine.now).decoder.is_state n.state)) (drop begin kept.now.items) }
+    requires small { All (λ n. n.sum ≤ 2 ^ 60) (drop begin kept.now.items) }
+    ensures { OnOk result (nodes.new.items ≡ take width (sorted (extensions (M.rules machine.now).decoder rule block.now (drop begin kept.now.items) (length (drop begin kept.now.items))))) }
 {
-    let mut nodes = Vec::new(alloc);
-    for i in 0..layer.len() {
-        extend(machine, rule, block, i as u32, layer[i], width, &mut nodes)?;
+    nodes.clear();
+    for i in 0..kept.len() - begin {
+        let from = node_behind(kept, begin, i);
+        extend(machine, rule, block, i as u32, from, width, nodes)?;
     }
-    Ok(nodes)
+    Ok(())
 }

@@ -2,6 +2,7 @@
 #![tactic(auto)]
 
 mod bounded;
+mod history;
 mod laws;
 mod layer;
 mod layers;

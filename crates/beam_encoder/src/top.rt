@@ -36,8 +36,8 @@ fn beam_of_blocks<M: Machine>(
     ensures sum { IfOk result (λ choice. choice.sum ≡ sum_of (M.rules machine.now).decoder (list_of choice) targets.now blocks) }
     ensures legal { IfOk result (λ choice. IsLegal (M.rules machine.now).decoder blocks first_only (list_of choice)) }
 {
-    let rows = layers(alloc, machine, targets, blocks, width)?;
-    let heads = heads_of(alloc, rows.as_slice(), blocks)?;
+    let history = layers(alloc, machine, targets, blocks, width)?;
+    let heads = heads_of(alloc, &history, blocks)?;
     let choice = spelled(alloc, machine, targets, blocks, heads)?;
     Ok(choice)
 }

@@ -21,12 +21,14 @@ drop-one k xs = drop-drop 1 k xs
 tail-of : (x : Segment) (ys zs : List Segment) → (x ∷ ys) ≡ zs → ys ≡ drop 1 zs
 tail-of x ys zs h = ap (drop 1) h
 
-get-head : (k : ℕ) (xs : List Segment) (x : Segment) (ys : List Segment) → (x ∷ ys) ≡ drop k xs → slice_get xs k ≡ Some x
+-- what is left from a place on begins with the segment there
+pub get-head : (k : ℕ) (xs : List Segment) (x : Segment) (ys : List Segment) → (x ∷ ys) ≡ drop k xs → slice_get xs k ≡ Some x
 get-head zero xs x ys h = ap (λ z. slice_get z 0) (sym h)
 get-head (suc k) [] x ys h = absurd (cc)
 get-head (suc k) (z ∷ xs) x ys h = get-head k xs x ys h
 
-tail-drop : (k : ℕ) (xs ys : List Segment) (x : Segment) → (x ∷ ys) ≡ drop k xs → ys ≡ drop (k + 1) xs
+-- and goes on with what is left from the next place on
+pub tail-drop : (k : ℕ) (xs ys : List Segment) (x : Segment) → (x ∷ ys) ≡ drop k xs → ys ≡ drop (k + 1) xs
 tail-drop k xs ys x h = tail-of x ys (drop k xs) h ∙ drop-one k xs
 
 pub length-segments : (bytes : List ℕ) (at n : ℕ) → length (segments_at bytes at n) ≡ n
@@ -60,3 +62,14 @@ one-stands bytes at n k h s =
     let q : n - k ≡ suc (n - (k + 1)) = omega arith in
     let s' = subst (λ z. AllStand bytes at z) q s in
     (s'.0, s'.1, within bytes (segment_end bytes at) (n - (k + 1)) s'.2)
+
+-- where some segments are left there is a number of them
+pub some-left : (bytes : List ℕ) (at n : ℕ) (xs : List Segment) → segments_at bytes at n ≡ xs → 0 < length xs → 0 < n
+some-left bytes at n xs d h =
+    let e = length-segments bytes at n in
+    let same = ap (λ (z : List Segment). length z) d in omega (arith, e, same)
+
+-- and the first of them lies there
+pub first-stands : (bytes : List ℕ) (at n : ℕ) → 0 < n → AllStand bytes at n → AllStand bytes at 1
+first-stands bytes at zero h s = absurd (omega arith)
+first-stands bytes at (suc n) h s = (s.0, s.1, within bytes (segment_end bytes at) n s.2)

@@ -1,4 +1,4 @@
-ghost use Rattle.std.specs.Prelude.{◌≡◌, ◌≤◌, ◌<◌, ◌+◌, ◌^◌, length, IfOk, slice_get, Some, map};
+ghost use Rattle.std.specs.Prelude.{◌≡◌, ◌≤◌, ◌<◌, ◌+◌, ◌^◌, ◌∷◌, length, IfOk, slice_get, Some, map};
 ghost use Rattle.bound_cert.specs.Content.{first_at};
 ghost use Rattle.bound_cert.specs.Good.{SegmentsFit, blocks_in};
 ghost use Rattle.bound_cert.specs.Grammar.{read_of};
@@ -30,6 +30,27 @@ impl<'b> Model for CertView<'b> {
     ghost view = { λ v. segments_at v.bytes.now 8 v.count };
 
     ghost invariant = { λ v. AllStand v.bytes.now 8 v.count };
+}
+
+/// The segments of a certificate that are still ahead: each begins where the one before it ends.
+#[derive(Drop)]
+pub struct SegmentsLeft<'b> {
+    bytes: &'b [u8],
+    at: usize,
+    count: usize,
+}
+
+impl<'b> Model for SegmentsLeft<'b> {
+    ghost use Rattle.std.specs.Prelude.{List};
+    ghost use Rattle.bound_cert.specs.Content.{Segment};
+
+    ghost Value = { List Segment };
+
+    ghost use Rattle.bound_cert.specs.Places.{segments_at, AllStand};
+
+    ghost view = { λ v. segments_at v.bytes.now v.at v.count };
+
+    ghost invariant = { λ v. AllStand v.bytes.now v.at v.count };
 }
 
 /// The certificate that the bytes are, or the first fault.
@@ -75,12 +96,40 @@ fn segment_place(bytes: &[u8], count: usize, i: u32) -> usize
 }
 
 impl<'b> CertView<'b> {
-    /// Segment i.
+    /// Segment i, found from the first on. To go over all of them, take `segments`.
     pub fn segment(&self, i: u32) -> SegmentView<'b>
         requires { i < length self.now }
         ensures { slice_get self.now i ≡ Some result }
     {
         let at = segment_place(self.bytes, self.count, i);
         SegmentView::over(self.bytes, at)
+    }
+
+    /// All its segments, to be taken one after another.
+    pub fn segments(&self) -> SegmentsLeft<'b>
+        ensures { result ≡ self.now }
+    {
+        SegmentsLeft {
+            bytes: self.bytes,
+            at: 8,
+            count: self.count,
+        }
+    }
+}
+
+impl<'b> SegmentsLeft<'b> {
+    /// The first of them, and those after it. The end is found in as many steps as the first has layers.
+    pub fn split_first(&self) -> (SegmentView<'b>, SegmentsLeft<'b>)
+        requires { 0 < length self.now }
+        ensures { self.now ≡ result.0 ∷ result.1 }
+    {
+        let layers = u32_in(self.bytes, self.at + 12);
+        let end = layers_past(self.bytes, self.at + 16, layers);
+        let later = SegmentsLeft {
+            bytes: self.bytes,
+            at: end,
+            count: self.count - 1,
+        };
+        (SegmentView::over(self.bytes, self.at), later)
     }
 }

@@ -17,7 +17,7 @@ mod shape;
 mod writing;
 
 pub use box_layers::{CellValue, Key};
-pub use certificate::{CertView, read_cert};
+pub use certificate::{CertView, SegmentsLeft, read_cert};
 pub use fault::CertFault;
 pub use laws::{segments_fit, writable_is_small, written_is_read};
 pub use layer::LayerView;

@@ -78,7 +78,6 @@ names_end seen left total is so_far =
     sym so_far ∙ one
 
 -- the names of a sample's files, put one behind the other
-pub names_more : (f : List ℕ → List ℕ) (old own : List (List ℕ)) (a b : List ℕ) → ((old ++ map f own) ++ f a ∷ []) ++ f b ∷ [] ≡ old ++ map f ((own ++ a ∷ []) ++ b ∷ [])
+pub names_more : (f : List ℕ → List ℕ) (old own : List (List ℕ)) (a b : List ℕ) → ((old ++ map f own) ++ f a ∷ []) ++ f b ∷ [] ≡ old ++ map f (own ++ a ∷ b ∷ [])
 names_more f old own a b =
-    append_assoc (old ++ map f own) (f a ∷ []) (f b ∷ []) ∙ (append_assoc old (map f own) (f a ∷ f b ∷ [])
-    ∙ ap (λ xs. old ++ xs) (sym (ap (map f) (append_assoc own (a ∷ []) (b ∷ [])) ∙ map-append f own (a ∷ b ∷ []))))
+    append_assoc (old ++ map f own) (f a ∷ []) (f b ∷ []) ∙ (append_assoc old (map f own) (f a ∷ f b ∷ []) ∙ ap (λ xs. old ++ xs) (sym (map-append f own (a ∷ b ∷ []))))

@@ -10,7 +10,7 @@ use Rattle.machine_core.specs.declared.state.Kind.{Kind}
 use Rattle.machine_core.specs.declared.state.Kind.TheVariants.{Brr, Spu, Ima}
 use Rattle.manifest_reader.specs.declared.manifest.SampleEntry.{SampleEntry}
 use Rattle.manifest_reader.specs.Words.{is_name, is_name_byte}
-use Rattle.manifest_reader.specs.Stored.{joined, stored_endings, reserved_endings, names_with, stored_names, reserved_names}
+use Rattle.manifest_reader.specs.Stored.{joined, stored_endings, stored_names}
 use Rattle.manifest_reader.specs.Ranges.{IsEntry, AreDistinct, StoresOnce}
 
 -- two texts that differ
@@ -73,15 +73,9 @@ record AreEndings (endings : List (List ℕ)) : Type 0 where
 
 stored_are : (kind : Kind) → AreEndings (stored_endings kind)
 unfolding IsDistinct
-stored_are Brr = record { dotted = ((_, refl), tt); once = (tt, tt) }
-stored_are Spu = record { dotted = ((_, refl), ((_, refl), tt)); once = ((refl, tt), (tt, tt)) }
-stored_are Ima = record { dotted = ((_, refl), ((_, refl), tt)); once = ((refl, tt), (tt, tt)) }
-
-reserved_are : (kind : Kind) → AreEndings (reserved_endings kind)
-unfolding IsDistinct
-reserved_are Brr = record { dotted = ((_, refl), ((_, refl), tt)); once = ((refl, tt), (tt, tt)) }
-reserved_are Spu = record { dotted = ((_, refl), ((_, refl), ((_, refl), tt))); once = ((refl, (refl, tt)), ((refl, tt), (tt, tt))) }
-reserved_are Ima = record { dotted = ((_, refl), ((_, refl), ((_, refl), tt))); once = ((refl, (refl, tt)), ((refl, tt), (tt, tt))) }
+stored_are Brr = record { dotted = ((_, refl), ((_, refl), tt)); once = ((refl, tt), (tt, tt)) }
+stored_are Spu = record { dotted = ((_, refl), ((_, refl), ((_, refl), tt))); once = ((refl, (refl, tt)), ((refl, tt), (tt, tt))) }
+stored_are Ima = record { dotted = ((_, refl), ((_, refl), ((_, refl), tt))); once = ((refl, (refl, tt)), ((refl, tt), (tt, tt))) }
 
 -- what holds of all elements of two lists
 both : {X : Type 0} (P : X → Type 0) (xs ys : List X) → AllByRecursion P xs → AllByRecursion P ys → AllByRecursion P (xs ++ ys)
@@ -163,18 +157,11 @@ all_named : (samples : List SampleEntry) → AllByRecursion IsEntry samples → 
 all_named [] h = tt
 all_named (s ∷ samples) h = (only_name_bytes s.name h.0.name, all_named samples h.1)
 
-names_once : (endings : List (List ℕ)) (kind : Kind) (bank : List ℕ) (samples : List SampleEntry) → AreEndings endings → AllByRecursion (λ t. list_all is_name_byte t.name ≡ true) samples → AreDistinct samples
-    → IsDistinct bytes_eq (names_with endings kind bank samples)
-unfolding IsDistinct
-names_once endings Brr bank samples are named apart = (free_of_all endings bank bank samples are (images_free bank samples), files_distinct endings bank samples are named apart)
-names_once endings Spu bank samples are named apart = files_distinct endings bank samples are named apart
-names_once endings Ima bank samples are named apart = files_distinct endings bank samples are named apart
-
 -- where no two samples have one name, no two files of the bank have one
 pub stores_once : (kind : Kind) (bank : List ℕ) (samples : List SampleEntry) → All IsEntry samples → AreDistinct samples → StoresOnce kind bank samples
-unfolding stored_names reserved_names
-stores_once kind bank samples entries apart =
-    let named = all_named samples (recursion_from_All IsEntry samples entries) in record {
-      stored = names_once (stored_endings kind) kind bank samples (stored_are kind) named apart;
-      reserved = names_once (reserved_endings kind) kind bank samples (reserved_are kind) named apart;
-    }
+unfolding stored_names IsDistinct
+stores_once Brr bank samples entries apart =
+    let named = all_named samples (recursion_from_All IsEntry samples entries) in
+    (free_of_all (stored_endings Brr) bank bank samples (stored_are Brr) (images_free bank samples), files_distinct (stored_endings Brr) bank samples (stored_are Brr) named apart)
+stores_once Spu bank samples entries apart = files_distinct (stored_endings Spu) bank samples (stored_are Spu) (all_named samples (recursion_from_All IsEntry samples entries)) apart
+stores_once Ima bank samples entries apart = files_distinct (stored_endings Ima) bank samples (stored_are Ima) (all_named samples (recursion_from_All IsEntry samples entries)) apart

@@ -8,7 +8,7 @@ use Rattle.manifest_reader.specs.declared.fault.ManifestFault.{ManifestFault}
 use Rattle.manifest_reader.specs.declared.fault.ManifestFault.TheVariants.{SameName, Clash}
 use Rattle.manifest_reader.specs.declared.manifest.SampleEntry.{SampleEntry}
 use Rattle.manifest_reader.specs.Keys.{is_among}
-use Rattle.manifest_reader.specs.Stored.{reserved_names}
+use Rattle.manifest_reader.specs.Stored.{stored_names}
 
 -- after those that were seen, no sample has the name of an earlier one, or the first such name
 unfoldable pub check_same : List SampleEntry → List SampleEntry → Result ⊤ ManifestFault
@@ -28,4 +28,4 @@ check_clash stored (s ∷ samples) own =
 unfoldable pub check_names : Kind → List ℕ → List SampleEntry → List ℕ → Result ⊤ ManifestFault
 check_names kind bank samples own = do
   once ← check_same [] samples
-  check_clash (reserved_names kind bank samples) samples own
+  check_clash (stored_names kind bank samples) samples own

@@ -6,7 +6,7 @@ use Rattle.machine_core.specs.declared.state.Kind.{Kind}
 use Rattle.manifest_reader.specs.declared.manifest.SampleEntry.{SampleEntry}
 use Rattle.manifest_reader.specs.Words.{is_bank, is_name, is_file}
 use Rattle.manifest_reader.specs.Keys.{is_among}
-use Rattle.manifest_reader.specs.Stored.{stored_names, reserved_names}
+use Rattle.manifest_reader.specs.Stored.{stored_names}
 use Rattle.manifest_reader.specs.Meaning.{Content}
 
 -- a multiple of step in low..high
@@ -38,10 +38,9 @@ pub record InRanges (m : Content) : Type 0 where
 abbrev pub AreDistinct : List SampleEntry → Type 0
 AreDistinct samples = IsDistinct bytes_eq (map (λ s. s.name) samples)
 
--- no two files of the bank have one name, nor do any two of the names that are kept free for them
-pub record StoresOnce (kind : Kind) (bank : List ℕ) (samples : List SampleEntry) : Type 0 where
-  pub stored : IsDistinct bytes_eq (stored_names kind bank samples)
-  pub reserved : IsDistinct bytes_eq (reserved_names kind bank samples)
+-- no two files of the bank have one name
+abbrev pub StoresOnce : Kind → List ℕ → List SampleEntry → Type 0
+StoresOnce kind bank samples = IsDistinct bytes_eq (stored_names kind bank samples)
 
 -- nothing is stored over a sample's file, nor over the manifest itself
 pub record IsApart (stored : List (List ℕ)) (samples : List SampleEntry) (own : List ℕ) : Type 0 where

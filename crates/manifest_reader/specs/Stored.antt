@@ -21,19 +21,19 @@ vag_name_of bank sample = joined bank sample (codes ".vag")
 abbrev pub ima_name_of : List ℕ → List ℕ → List ℕ
 ima_name_of bank sample = joined bank sample (codes ".wav")
 
+-- the certificate of the bound that is told of a sample
+abbrev pub cert_name_of : List ℕ → List ℕ → List ℕ
+cert_name_of bank sample = joined bank sample (codes ".cert")
+
 -- the ending of the file that holds the blocks of a sample alone
 abbrev pub blocks_endings : Kind → List (List ℕ)
 blocks_endings Brr = []
 blocks_endings Spu = codes ".vag" ∷ []
 blocks_endings Ima = codes ".wav" ∷ []
 
--- the endings of the files of a sample, in store order: its blocks where they have a file, and its first pass
+-- the endings of the files of a sample, in store order: its blocks where they have a file, its first pass, and its certificate
 abbrev pub stored_endings : Kind → List (List ℕ)
-stored_endings kind = blocks_endings kind ++ codes ".first.wav" ∷ []
-
--- the same with that of its certificate, which comes last; no certificate is stored so far, but its name is kept free
-abbrev pub reserved_endings : Kind → List (List ℕ)
-reserved_endings kind = stored_endings kind ++ codes ".cert" ∷ []
+stored_endings kind = blocks_endings kind ++ codes ".first.wav" ∷ codes ".cert" ∷ []
 
 -- the file that holds the blocks of all samples
 abbrev pub image_names : Kind → List ℕ → List (List ℕ)
@@ -41,14 +41,6 @@ image_names Brr bank = bank ∷ []
 image_names Spu bank = []
 image_names Ima bank = []
 
--- the image, and for each sample the files with these endings, in store order
-abbrev pub names_with : List (List ℕ) → Kind → List ℕ → List SampleEntry → List (List ℕ)
-names_with endings kind bank samples = image_names kind bank ++ flat_map (λ s. map (joined bank s.name) endings) samples
-
--- all files of a bank, in store order
+-- all files of a bank, in store order: the image, and then those of each sample; nothing that its compilation reads may have one of these names
 unfoldable pub stored_names : Kind → List ℕ → List SampleEntry → List (List ℕ)
-stored_names kind bank samples = names_with (stored_endings kind) kind bank samples
-
--- the names that nothing else may have which a bank's compilation reads
-unfoldable pub reserved_names : Kind → List ℕ → List SampleEntry → List (List ℕ)
-reserved_names kind bank samples = names_with (reserved_endings kind) kind bank samples
+stored_names kind bank samples = image_names kind bank ++ flat_map (λ s. map (joined bank s.name) (stored_endings kind)) samples

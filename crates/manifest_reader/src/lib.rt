@@ -16,4 +16,4 @@ mod words;
 pub use fault::ManifestFault;
 pub use manifest::{Manifest, SampleEntry};
 pub use reader::read_manifest;
-pub use stored::{first_pass_name, ima_name, reserved_names, vag_name};
+pub use stored::{cert_name, first_pass_name, ima_name, stored_names, vag_name};

@@ -5,11 +5,11 @@ ghost use Rattle.adpcm_nums.specs.Outcome.{Gives};
 ghost use Rattle.manifest_reader.specs.Keys.{is_among};
 ghost use Rattle.manifest_reader.specs.Names.{check_same, check_clash, check_names};
 ghost use Rattle.manifest_reader.specs.Ranges.{IsEntry, AreDistinct, StoresOnce, IsApart};
-ghost use Rattle.manifest_reader.specs.Stored.{reserved_names};
+ghost use Rattle.manifest_reader.specs.Stored.{stored_names};
 
 use crate::fault::ManifestFault;
 use crate::manifest::SampleEntry;
-use crate::stored::reserved_names;
+use crate::stored::stored_names;
 use adpcm_nums::Text;
 use machine_core::Kind;
 use std::alloc::Global;
@@ -80,11 +80,11 @@ pub(crate) fn check_names(
     requires { All IsEntry samples.now }
     ensures distinct { IfOk result (λ _. AreDistinct samples.now) }
     ensures once { IfOk result (λ _. StoresOnce kind bank.now samples.now) }
-    ensures apart { IfOk result (λ _. IsApart (reserved_names kind bank.now samples.now) samples.now own.now) }
+    ensures apart { IfOk result (λ _. IsApart (stored_names kind bank.now samples.now) samples.now own.now) }
     ensures value { Gives ManifestFault.NoMemory (λ u. u) result (check_names kind bank.now samples.now own.now) }
 {
     check_same(alloc, samples)?;
-    let stored = reserved_names(alloc, kind, bank, samples)?;
+    let stored = stored_names(alloc, kind, bank, samples)?;
     check_clash(alloc, stored.as_slice(), samples, own)?;
     Ok(())
 }

@@ -1,6 +1,6 @@
 ghost use Rattle.std.specs.Prelude.{IfOk};
 ghost use Rattle.manifest_reader.specs.Ranges.{InRanges, AreDistinct, StoresOnce, IsApart};
-ghost use Rattle.manifest_reader.specs.Stored.{reserved_names};
+ghost use Rattle.manifest_reader.specs.Stored.{stored_names};
 ghost use Rattle.toml.specs.View.{table_view};
 ghost use Rattle.adpcm_nums.specs.Outcome.{Gives};
 ghost use Rattle.manifest_reader.specs.Meaning.{content_of, manifest_at, document_of, manifest_of};
@@ -19,7 +19,7 @@ fn manifest_at(alloc: Global, table: &Table, own: &str) -> Result<Manifest, Mani
     ensures ranges { IfOk result (λ m. InRanges (content_of m)) }
     ensures distinct { IfOk result (λ m. AreDistinct m.samples.items) }
     ensures once { IfOk result (λ m. StoresOnce m.kind m.bank m.samples.items) }
-    ensures apart { IfOk result (λ m. IsApart (reserved_names m.kind m.bank m.samples.items) m.samples.items own.now) }
+    ensures apart { IfOk result (λ m. IsApart (stored_names m.kind m.bank m.samples.items) m.samples.items own.now) }
     ensures value { Gives ManifestFault.NoMemory content_of result (manifest_at (table_view table.now) own.now) }
 {
     check_keys(
@@ -79,7 +79,7 @@ pub fn read_manifest(alloc: Global, bytes: &[u8], own: &str) -> Result<Manifest,
     ensures ranges { IfOk result (λ m. InRanges (content_of m)) }
     ensures distinct { IfOk result (λ m. AreDistinct m.samples.items) }
     ensures once { IfOk result (λ m. StoresOnce m.kind m.bank m.samples.items) }
-    ensures apart { IfOk result (λ m. IsApart (reserved_names m.kind m.bank m.samples.items) m.samples.items own.now) }
+    ensures apart { IfOk result (λ m. IsApart (stored_names m.kind m.bank m.samples.items) m.samples.items own.now) }
     ensures value { Gives ManifestFault.NoMemory content_of result (manifest_of bytes.now own.now) }
 {
     if 65536 < bytes.len() {

@@ -1,5 +1,5 @@
 ghost use Rattle.std.specs.Prelude.{◌≡◌, ◌++◌, ◌∷◌, [], map, IfOk};
-ghost use Rattle.manifest_reader.specs.Stored.{joined, first_pass_of, vag_name_of, ima_name_of, blocks_endings, reserved_endings, reserved_names};
+ghost use Rattle.manifest_reader.specs.Stored.{joined, first_pass_of, vag_name_of, ima_name_of, cert_name_of, blocks_endings, stored_endings, stored_names};
 
 use crate::manifest::SampleEntry;
 use adpcm_nums::{NoMemory, Text};
@@ -36,6 +36,13 @@ pub fn ima_name(alloc: Global, bank: &str, sample: &str) -> Result<Text, NoMemor
     ensures { IfOk result (λ name. name ≡ ima_name_of bank.now sample.now) }
 {
     joined(alloc, bank, sample, ".wav")
+}
+
+/// The name of the certificate of the bound that is told of a sample: `BANK.SAMPLE.cert` (this project's own choice).
+pub fn cert_name(alloc: Global, bank: &str, sample: &str) -> Result<Text, NoMemory>
+    ensures { IfOk result (λ name. name ≡ cert_name_of bank.now sample.now) }
+{
+    joined(alloc, bank, sample, ".cert")
 }
 
 /// Adds the name of a file of a sample.
@@ -81,7 +88,7 @@ fn push_names(
     bank: &str,
     sample: &str,
 ) -> Result<(), NoMemory>
-    ensures { IfOk result (λ _. names.new.items ≡ names.old.items ++ map (joined bank.now sample.now) (reserved_endings kind)) }
+    ensures { IfOk result (λ _. names.new.items ≡ names.old.items ++ map (joined bank.now sample.now) (stored_endings kind)) }
 {
     push_blocks_name(alloc, names, kind, bank, sample)?;
     push_name(alloc, names, bank, sample, ".first.wav")?;
@@ -90,16 +97,15 @@ fn push_names(
 }
 
 /// The names of all files of a bank, in store order: the SNES image where there is one, which has the bank's name, and
-/// then for each sample its own blocks where they have a file, its first pass and its certificate. A certificate is not
-/// stored so far, but its name is kept free.
-#[tactic(auto, unfolding(crate::specs::Stored::reserved_names))]
-pub fn reserved_names(
+/// then for each sample its own blocks where they have a file, its first pass and its certificate.
+#[tactic(auto, unfolding(crate::specs::Stored::stored_names))]
+pub fn stored_names(
     alloc: Global,
     kind: Kind,
     bank: &str,
     samples: &[SampleEntry],
 ) -> Result<Vec<Text>, NoMemory>
-    ensures { IfOk result (λ names. names.items ≡ reserved_names kind bank.now samples.now) }
+    ensures { IfOk result (λ names. names.items ≡ stored_names kind bank.now samples.now) }
 {
     let mut names = Vec::new(alloc);
     if kind == Kind::Brr {

@@ -1,5 +1,5 @@
 use super::KEYS;
-use crate::{read_manifest, reserved_names};
+use crate::{read_manifest, stored_names};
 use machine_core::Kind;
 use std::test::Fail;
 
@@ -57,7 +57,7 @@ fn names_the_files_of_a_bank(rt: HostRuntime) -> Result<(), Fail> {
         ),
     ] {
         let mut all = String::new(alloc);
-        for name in &reserved_names(alloc, kind, "x", example.samples.as_slice())? {
+        for name in &stored_names(alloc, kind, "x", example.samples.as_slice())? {
             all.push_str(name.as_str())?;
             all.push_str(" ")?;
         }

@@ -1,0 +1,4 @@
+pub mod OutputLaws
+pub mod FittedLaws
+pub mod ReadSegments
+pub mod CertifiedBounds

@@ -1,0 +1,10 @@
+pub mod Chosen
+pub mod Passes
+pub mod Codec
+pub mod Kinds
+pub mod Filed
+pub mod Laws
+pub mod Fits
+pub mod Bound
+pub mod Replay
+pub mod Certified

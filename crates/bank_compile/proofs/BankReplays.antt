@@ -16,14 +16,17 @@ use Rattle.player_model.specs.BrrFormat.{brr_format}
 use Rattle.player_model.specs.SpuFormat.{spu_format}
 use Rattle.loop_fit.specs.declared.fitted.Fitted.{Fitted}
 use Rattle.loop_fit.specs.Fit.{points_of}
-use Rattle.manifest_reader.specs.Stored.{first_pass_of}
+use Rattle.manifest_reader.specs.Stored.{first_pass_of, cert_name_of}
 use Rattle.snes_directory.specs.declared.fault.LayFault.{LayFault}
 use Rattle.bank_compile.specs.declared.sample.SampleOut.{SampleOut}
-use Rattle.bank_compile.specs.Codec.{Codec}
-use Rattle.bank_compile.specs.Kinds.{codec_for, brr_codec}
-use Rattle.bank_compile.specs.Sample.{IsCompiled, out_of, first_of, error_of}
+use Rattle.bank_kinds.specs.Codec.{Codec}
+use Rattle.bank_kinds.specs.Kinds.{codec_for, brr_codec}
+use Rattle.bank_kinds.specs.Laws.{is_codec_for}
+use Rattle.bank_kinds.specs.Certified.{IsCertified}
+use Rattle.bank_kinds.specs.Fits.{first_of, error_of}
+use Rattle.bank_compile.specs.Sample.{Effort, IsCompiled, list_in, out_of}
 use Rattle.bank_compile.specs.Bank.{IsOut, sound_file, sample_files, image_of, image_files, bank_of}
-use Rattle.bank_compile.specs.Replay.{Entry, IsHeld, InImage, InVag, InIma, StandsIn, Replays, SampleReplays, track_entry}
+use Rattle.bank_kinds.specs.Replay.{Entry, IsHeld, InImage, InVag, InIma, StandsIn, Replays, SampleReplays, track_entry}
 use Rattle.bank_compile.proofs.Replaying.{IsMade, made-of, made-in-image, made-in-vag}
 use Rattle.bank_compile.proofs.ImaReplays.{made-in-ima}
 
@@ -70,18 +73,18 @@ record IsIn (kind : Kind) (block : ℕ) (content : List ℕ → List ℕ) (bank 
   first : List NamedFile
   first_is : image_files kind bank base outs ≡ Ok first
   first_held : AllByRecursion (IsHeld content) first
-  held : AllByRecursion (IsHeld content) (sample_files kind block bank (out_of (codec_for kind block) name rate fitted m.list))
+  held : AllByRecursion (IsHeld content) (sample_files kind block bank (out_of (codec_for kind block) name rate fitted m.founds))
 
-is-in : (kind : Kind) (block : ℕ) (content : List ℕ → List ℕ) (bank : List ℕ) (base : ℕ) (outs : List SampleOut) (files : List NamedFile) (j : ℕ) (out : SampleOut) (name : List ℕ) (rate : ℕ) (fitted : Fitted)
-    → All (IsOut (codec_for kind block)) outs → bank_of kind block bank base outs ≡ Ok files → All (IsHeld content) files → slice_get outs j ≡ Some out
-    → IsCompiled (codec_for kind block) name rate fitted out → IsIn kind block content bank base outs j out name rate fitted
+is-in : (kind : Kind) (block : ℕ) (content : List ℕ → List ℕ) (bank : List ℕ) (base : ℕ) (outs : List SampleOut) (files : List NamedFile) (j : ℕ) (out : SampleOut) (effort : Effort) (name : List ℕ) (rate : ℕ) (fitted : Fitted)
+    → IsTrue (is_align block) → All (IsOut (codec_for kind block)) outs → bank_of kind block bank base outs ≡ Ok files → All (IsHeld content) files → slice_get outs j ≡ Some out
+    → IsCompiled (codec_for kind block) effort name rate fitted out → IsIn kind block content bank base outs j out name rate fitted
 unfolding bank_of
-is-in kind block content bank base outs files j out name rate fitted are stored held at compiled =
+is-in kind block content bank base outs files j out effort name rate fitted fits are stored held at compiled =
     let pieces = flat_map (sample_files kind block bank) outs in
     let a = are-files (image_files kind bank base outs) pieces files stored in
     let all = held-files content (image_files kind bank base outs) pieces files a held in
-    let m = made-of (codec_for kind block) outs j out name rate fitted are at compiled in
-    let made = out_of (codec_for kind block) name rate fitted m.list in
+    let m = made-of (codec_for kind block) effort outs j out name rate fitted (is_codec_for kind block fits) are at compiled in
+    let made = out_of (codec_for kind block) name rate fitted m.founds in
     record {
       m = m;
       first = a.first;
@@ -96,16 +99,16 @@ pass c rate fitted list = sound_file rate (first_of c fitted list) (points_of c.
 
 -- it replays where an entry stands for it, with its first pass
 replays-held : (kind : Kind) (block : ℕ) (content : List ℕ → List ℕ) (bank : List ℕ) (j : ℕ) (out : SampleOut) (name : List ℕ) (rate : ℕ) (fitted : Fitted) (m : IsMade (codec_for kind block) out name rate fitted) (entry : Entry)
-    → StandsIn kind content bank name j entry → Replays (codec_for kind block) entry (pass (codec_for kind block) rate fitted m.list) rate fitted (error_of (codec_for kind block) fitted m.list)
-    → content (first_pass_of bank name) ≡ pass (codec_for kind block) rate fitted m.list → SampleReplays kind block content bank name j rate fitted out.report.error
+    → StandsIn kind block content bank name j fitted.frames entry → Replays (codec_for kind block) entry (pass (codec_for kind block) rate fitted (list_in m.founds)) rate fitted (error_of (codec_for kind block) fitted (list_in m.founds))
+    → content (first_pass_of bank name) ≡ pass (codec_for kind block) rate fitted (list_in m.founds) → SampleReplays kind block content bank name j rate fitted out.report.error
 replays-held kind block content bank j out name rate fitted m entry stands replays first =
     let c = codec_for kind block in
-    let error : error_of c fitted m.list ≡ out.report.error = ap (λ (o : SampleOut). o.report.error) (sym m.made) in
+    let error : error_of c fitted (list_in m.founds) ≡ out.report.error = ap (λ (o : SampleOut). o.report.error) (sym m.made) in
     record {
       entry = entry;
       stands = stands;
       replays = subst (λ (b : List ℕ). Replays c entry b rate fitted out.report.error) (sym first)
-          (subst (λ (e : ℕ). Replays c entry (pass c rate fitted m.list) rate fitted e) error replays);
+          (subst (λ (e : ℕ). Replays c entry (pass c rate fitted (list_in m.founds)) rate fitted e) error replays);
     }
 
 -- a sample of a bank with an image
@@ -131,16 +134,35 @@ in-ima : (block : ℕ) (content : List ℕ → List ℕ) (bank : List ℕ) (base
     → IsTrue (is_align block) → IsIn Ima block content bank base outs j out name rate fitted → SampleReplays Ima block content bank name j rate fitted out.report.error
 in-ima block content bank base outs j out name rate fitted fits is =
     let own = made-in-ima block fits out name rate fitted is.m in
-    replays-held Ima block content bank j out name rate fitted is.m own.0 (subst (λ (b : List ℕ). InIma b own.0) (sym is.held.0) own.1) own.2 is.held.1.0
+    replays-held Ima block content bank j out name rate fitted is.m own.0 (subst (λ (b : List ℕ). InIma b block fitted.frames own.0) (sym is.held.0) own.1) own.2 is.held.1.0
 
 -- sample j of a bank replays, whatever its format
-pub bank-replays : (kind : Kind) (block : ℕ) (content : List ℕ → List ℕ) (bank : List ℕ) (base : ℕ) (outs : List SampleOut) (files : List NamedFile) (j : ℕ) (out : SampleOut) (name : List ℕ) (rate : ℕ) (fitted : Fitted)
+pub bank-replays : (kind : Kind) (block : ℕ) (content : List ℕ → List ℕ) (bank : List ℕ) (base : ℕ) (outs : List SampleOut) (files : List NamedFile) (j : ℕ) (out : SampleOut) (effort : Effort) (name : List ℕ) (rate : ℕ) (fitted : Fitted)
     → IsTrue (is_align block) → length outs ≤ 64 → All (IsOut (codec_for kind block)) outs → bank_of kind block bank base outs ≡ Ok files
-    → All (IsHeld content) files → slice_get outs j ≡ Some out → IsCompiled (codec_for kind block) name rate fitted out
+    → All (IsHeld content) files → slice_get outs j ≡ Some out → IsCompiled (codec_for kind block) effort name rate fitted out
     → SampleReplays kind block content bank name j rate fitted out.report.error
-bank-replays Brr block content bank base outs files j out name rate fitted fits few are stored held at compiled =
-    in-image block content bank base outs j out name rate fitted few are at (is-in Brr block content bank base outs files j out name rate fitted are stored held at compiled)
-bank-replays Spu block content bank base outs files j out name rate fitted fits few are stored held at compiled =
-    in-vag block content bank base outs j out name rate fitted (is-in Spu block content bank base outs files j out name rate fitted are stored held at compiled)
-bank-replays Ima block content bank base outs files j out name rate fitted fits few are stored held at compiled =
-    in-ima block content bank base outs j out name rate fitted fits (is-in Ima block content bank base outs files j out name rate fitted are stored held at compiled)
+bank-replays Brr block content bank base outs files j out effort name rate fitted fits few are stored held at compiled =
+    in-image block content bank base outs j out name rate fitted few are at (is-in Brr block content bank base outs files j out effort name rate fitted fits are stored held at compiled)
+bank-replays Spu block content bank base outs files j out effort name rate fitted fits few are stored held at compiled =
+    in-vag block content bank base outs j out name rate fitted (is-in Spu block content bank base outs files j out effort name rate fitted fits are stored held at compiled)
+bank-replays Ima block content bank base outs files j out effort name rate fitted fits few are stored held at compiled =
+    in-ima block content bank base outs j out name rate fitted fits (is-in Ima block content bank base outs files j out effort name rate fitted fits are stored held at compiled)
+
+-- its certificate is held
+cert-held : (kind : Kind) (block : ℕ) (content : List ℕ → List ℕ) (bank : List ℕ) (out : SampleOut) → AllByRecursion (IsHeld content) (sample_files kind block bank out) → content (cert_name_of bank out.name) ≡ out.cert
+cert-held Brr block content bank out held = held.1.0
+cert-held Spu block content bank out held = held.1.1.0
+cert-held Ima block content bank out held = held.1.1.0
+
+-- and shows the told bound
+pub bank-certifies : (kind : Kind) (block : ℕ) (content : List ℕ → List ℕ) (bank : List ℕ) (base : ℕ) (outs : List SampleOut) (files : List NamedFile) (j : ℕ) (out : SampleOut) (effort : Effort) (name : List ℕ) (rate : ℕ) (fitted : Fitted)
+    → IsTrue (is_align block) → All (IsOut (codec_for kind block)) outs → bank_of kind block bank base outs ≡ Ok files
+    → All (IsHeld content) files → slice_get outs j ≡ Some out → IsCompiled (codec_for kind block) effort name rate fitted out
+    → IsCertified (codec_for kind block) (content (cert_name_of bank name)) fitted out.report.bound out.report.levels
+bank-certifies kind block content bank base outs files j out effort name rate fitted fits are stored held at compiled =
+    let c = codec_for kind block in
+    let is = is-in kind block content bank base outs files j out effort name rate fitted fits are stored held at compiled in
+    let made = out_of c name rate fitted is.m.founds in
+    let cert = cert-held kind block content bank made is.held in
+    subst (λ (o : SampleOut). IsCertified c (content (cert_name_of bank name)) fitted o.report.bound o.report.levels) (sym is.m.made)
+    (subst (λ (bytes : List ℕ). IsCertified c bytes fitted made.report.bound made.report.levels) (sym cert) is.m.certified)

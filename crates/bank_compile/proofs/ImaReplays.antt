@@ -13,7 +13,7 @@ use Rattle.ima_machine.specs.ImaRules.{ima_rules}
 use Rattle.ima_machine.specs.Lawful.{align-low, align-high}
 use Rattle.ima_machine.specs.Faults.{fault_in, head_fault}
 use Rattle.player_model.specs.ImaFormat.{ima_format}
-use Rattle.player_model.specs.ImaTrack.{ImaSound, head_fault_of, is_bad, track_unless, ima_track_of}
+use Rattle.player_model.specs.ImaTrack.{head_fault_of, is_bad, track_unless, ima_track_of}
 use Rattle.player_model.specs.Looped.{IsStoredAt}
 use Rattle.player_model.specs.Stored.{block_symbols, blocks_in}
 use Rattle.player_model.proofs.StoredBytes.{stored-spelled}
@@ -24,12 +24,13 @@ use Rattle.ima_wave.specs.Files.{IsImaFile}
 use Rattle.ima_wave.specs.Written.{ima_file}
 use Rattle.ima_wave.proofs.ReadAgain.{file_again}
 use Rattle.bank_compile.specs.declared.sample.SampleOut.{SampleOut}
-use Rattle.bank_compile.specs.Kinds.{ima_codec}
-use Rattle.bank_compile.specs.Laws.{ima_is_stored}
-use Rattle.bank_compile.specs.Passes.{outputs_of}
-use Rattle.bank_compile.specs.Sample.{AreWithin, out_of, first_of, error_of}
+use Rattle.bank_kinds.specs.Kinds.{ima_codec}
+use Rattle.bank_kinds.specs.Laws.{ima_is_stored}
+use Rattle.bank_kinds.specs.Passes.{outputs_of}
+use Rattle.bank_kinds.specs.Fits.{AreWithin, first_of, error_of}
+use Rattle.bank_compile.specs.Sample.{list_in, out_of}
 use Rattle.bank_compile.specs.Bank.{IsOut, wave_of, sound_file}
-use Rattle.bank_compile.specs.Replay.{Entry, InIma, Replays, ima_entry, sound_of}
+use Rattle.bank_kinds.specs.Replay.{Entry, InIma, Replays, ima_entry, sound_of}
 use Rattle.bank_compile.proofs.OutLaws.{out-length, out-stored}
 use Rattle.bank_compile.proofs.SoundLaws.{plain_outputs, scaled-round}
 use Rattle.bank_compile.proofs.StoredLaws.{track_at}
@@ -148,16 +149,18 @@ ima-entry align fits out is =
 
 -- a compiled sample stands in its WAVE file
 pub made-in-ima : (align : ℕ) → IsTrue (is_align align) → (out : SampleOut) (name : List ℕ) (rate : ℕ) (fitted : Fitted) (m : IsMade (ima_codec align) out name rate fitted)
-    → (entry : Entry) × InIma (ima_file (wave_of align (out_of (ima_codec align) name rate fitted m.list))) entry
-    × Replays (ima_codec align) entry (sound_file rate (first_of (ima_codec align) fitted m.list) (points_of (samples_in align) fitted)) rate fitted (error_of (ima_codec align) fitted m.list)
+    → (entry : Entry) × InIma (ima_file (wave_of align (out_of (ima_codec align) name rate fitted m.founds))) align fitted.frames entry
+    × Replays (ima_codec align) entry (sound_file rate (first_of (ima_codec align) fitted (list_in m.founds)) (points_of (samples_in align) fitted)) rate fitted (error_of (ima_codec align) fitted (list_in m.founds))
 made-in-ima align fits got name rate fitted m =
     let is = stands (ima_codec align) got name rate fitted m in
-    let out = out_of (ima_codec align) name rate fitted m.list in
+    let out = out_of (ima_codec align) name rate fitted m.founds in
     let file = wave_of align out in (
       ima_entry rate (sound_of file),
       record {
         said = file;
         file_read = file_again file (ima-file align fits out is) (ima-small align fits out is);
+        align_is = refl;
+        frames_are = refl;
         track = sound_of file;
         track_is = ima-track align fits out is;
         entry_is = refl;

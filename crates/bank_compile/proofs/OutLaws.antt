@@ -24,9 +24,9 @@ use Rattle.snes_directory.specs.Part.{IsPart, blocks_of, loop_address}
 use Rattle.snes_directory.specs.Spelling.{image_file, written_image}
 use Rattle.vag_writer.specs.Spelling.{vag_file, written_vag}
 use Rattle.bank_compile.specs.declared.sample.SampleOut.{SampleOut}
-use Rattle.bank_compile.specs.Codec.{IsStoredCodec, stored_codec}
-use Rattle.bank_compile.specs.Kinds.{brr_codec}
-use Rattle.bank_compile.specs.Laws.{brr_is_stored, brr_is_flagged}
+use Rattle.bank_kinds.specs.Codec.{IsStoredCodec, stored_codec}
+use Rattle.bank_kinds.specs.Kinds.{brr_codec}
+use Rattle.bank_kinds.specs.Laws.{brr_is_stored, brr_is_flagged}
 use Rattle.bank_compile.specs.Bank.{IsOut, part_of, image_of}
 use Rattle.bank_compile.proofs.StoredLaws.{track_at, stored-list}
 

@@ -39,12 +39,18 @@ use Rattle.snes_directory.proofs.Splits.{agains_in-at}
 use Rattle.vag_writer.specs.Spelling.{filled, vag_file}
 use Rattle.vag_writer.proofs.ReadAgain.{written_again as vag_again}
 use Rattle.bank_compile.specs.declared.sample.SampleOut.{SampleOut}
-use Rattle.bank_compile.specs.Codec.{Codec, IsFlagged, stored_codec, fixed_in}
-use Rattle.bank_compile.specs.Kinds.{brr_codec, spu_codec}
-use Rattle.bank_compile.specs.Laws.{brr_is_stored, spu_is_stored, brr_is_flagged, spu_is_flagged}
-use Rattle.bank_compile.specs.Sample.{IsFit, AreWithin, IsChosen, IsCompiled, played_of, bytes_of, out_of, first_of, error_of}
+use Rattle.bound_cert.specs.Spelling.{cert_bytes}
+use Rattle.branch_bound.specs.declared.top.Found.{Found}
+use Rattle.bank_kinds.specs.Certified.{IsCertified}
+use Rattle.bank_kinds.specs.Codec.{Codec, IsCodec, IsFlagged, stored_codec, fixed_in}
+use Rattle.bank_kinds.specs.Kinds.{brr_codec, spu_codec}
+use Rattle.bank_kinds.specs.Laws.{brr_is_stored, spu_is_stored, brr_is_flagged, spu_is_flagged}
+use Rattle.bank_kinds.specs.Fits.{IsFit, AreWithin, played_of, bytes_of, first_of, error_of}
+use Rattle.bank_compile.specs.Known.{certs_of, bounds_of, levels_in}
+use Rattle.bank_compile.specs.Sample.{Effort, IsCompiled, list_in, out_of}
 use Rattle.bank_compile.specs.Bank.{IsOut, part_of, sound_file, image_of}
-use Rattle.bank_compile.specs.Replay.{Entry, InImage, InVag, Replays, track_entry}
+use Rattle.bank_kinds.specs.Replay.{Entry, InImage, InVag, Replays, track_entry}
+use Rattle.bank_compile.proofs.ChosenLaws.{chosen-legal, chosen-certified}
 use Rattle.bank_compile.proofs.OutLaws.{out-length, out-stored, out-parts, image-written, goes-on}
 use Rattle.bank_compile.proofs.SoundLaws.{plays-first, points-are, sound_file-read}
 use Rattle.bank_compile.proofs.StoredLaws.{track_at, stored-list, frames-are}
@@ -92,6 +98,7 @@ entry-replays c rate fitted list entry is fit some_rate high_rate played range l
       first_read = file.is_read;
       first_rate = file.rate_is;
       first_length = ap (λ (xs : List ℤ). length xs) file.samples_are ∙ played;
+      first_is = file.samples_are ∙ ap (λ (l : Blocks). first_of c fitted l) (sym is.list_is);
       first_loop = ap (λ (xs : List ℤ). first_loop_of file.sound.sampler (length xs)) file.samples_are ∙ file.loop_is;
       plays = λ history i. is.plays history i ∙ ap (λ xs. round_of xs points i) (sym file.samples_are);
       legal = subst (λ (l : Blocks). IsLegal c.rules.decoder fitted.blocks (fixed_in c fitted) l) (sym is.list_is) legal;
@@ -114,20 +121,21 @@ track-entry r f memory begin again rate fitted list laws fit legal stored =
       plays = λ history i. plays-first r f memory begin again list fitted history i laws fit legal stored;
     }
 
--- what is known of a compiled sample: the list that was chosen, and that all else can be stored
+-- what is known of a compiled sample: what was found for its segments, that their lists make up a legal one, and that all else can be stored
 pub record IsMade (c : Codec) (out : SampleOut) (name : List ℕ) (rate : ℕ) (fitted : Fitted) : Type 0 where
-  pub list : Blocks
-  pub chosen : IsChosen c fitted list
-  pub made : out ≡ out_of c name rate fitted list
+  pub founds : List Found
+  pub made : out ≡ out_of c name rate fitted founds
+  pub legal : IsLegal c.rules.decoder fitted.blocks (fixed_in c fitted) (list_in founds)
+  pub certified : IsCertified c (cert_bytes c.rules.kind (certs_of founds)) fitted (bounds_of founds) (levels_in founds)
   pub short : length name ≤ 16
   pub some_rate : 1 ≤ rate
   pub high_rate : rate ≤ 1000000
   pub fit : IsFit c fitted
-  pub played : length (first_of c fitted list) ≡ played_of c fitted
-  pub range : AreSamples (first_of c fitted list)
+  pub played : length (first_of c fitted (list_in founds)) ≡ played_of c fitted
+  pub range : AreSamples (first_of c fitted (list_in founds))
 
 -- so it can stand in a bank, with that list
-abbrev pub stands : (c : Codec) (out : SampleOut) (name : List ℕ) (rate : ℕ) (fitted : Fitted) (m : IsMade c out name rate fitted) → IsOut c (out_of c name rate fitted m.list)
+abbrev pub stands : (c : Codec) (out : SampleOut) (name : List ℕ) (rate : ℕ) (fitted : Fitted) (m : IsMade c out name rate fitted) → IsOut c (out_of c name rate fitted m.founds)
 stands c out name rate fitted m = record {
   short = m.short;
   some_rate = m.some_rate;
@@ -135,32 +143,43 @@ stands c out name rate fitted m = record {
   fit = m.fit;
   played = m.played;
   range = m.range;
-  list = m.list;
-  in_range = m.chosen.legal.in_range;
+  list = list_in m.founds;
+  in_range = m.legal.in_range;
   spelled = refl;
 }
 
 -- an entry of its list replays it
-pub made-replays : (c : Codec) (out : SampleOut) (name : List ℕ) (rate : ℕ) (fitted : Fitted) (m : IsMade c out name rate fitted) (entry : Entry) → IsEntryOf c rate fitted m.list entry
-    → Replays c entry (sound_file rate (first_of c fitted m.list) (points_of c.rules.decoder.samples fitted)) rate fitted (error_of c fitted m.list)
-made-replays c out name rate fitted m entry is = entry-replays c rate fitted m.list entry is m.fit m.some_rate m.high_rate m.played m.range m.chosen.legal
+pub made-replays : (c : Codec) (out : SampleOut) (name : List ℕ) (rate : ℕ) (fitted : Fitted) (m : IsMade c out name rate fitted) (entry : Entry) → IsEntryOf c rate fitted (list_in m.founds) entry
+    → Replays c entry (sound_file rate (first_of c fitted (list_in m.founds)) (points_of c.rules.decoder.samples fitted)) rate fitted (error_of c fitted (list_in m.founds))
+made-replays c out name rate fitted m entry is = entry-replays c rate fitted (list_in m.founds) entry is m.fit m.some_rate m.high_rate m.played m.range m.legal
 
-pub made-of : (c : Codec) (outs : List SampleOut) (j : ℕ) (out : SampleOut) (name : List ℕ) (rate : ℕ) (fitted : Fitted) → All (IsOut c) outs → slice_get outs j ≡ Some out
-    → IsCompiled c name rate fitted out → IsMade c out name rate fitted
-made-of c outs j out name rate fitted are at compiled =
+pub made-of : (c : Codec) (effort : Effort) (outs : List SampleOut) (j : ℕ) (out : SampleOut) (name : List ℕ) (rate : ℕ) (fitted : Fitted) → IsCodec c → All (IsOut c) outs → slice_get outs j ≡ Some out
+    → IsCompiled c effort name rate fitted out → IsMade c out name rate fitted
+made-of c effort outs j out name rate fitted laws are at compiled =
     let below = slice_get_within outs j out at in
     let is = subst (IsOut c) (get_or_from_slice_get outs j out out at ∙ compiled.made) (are j out below) in
-    record { list = compiled.list; chosen = compiled.chosen; made = compiled.made; short = is.short; some_rate = is.some_rate; high_rate = is.high_rate; fit = is.fit; played = is.played; range = is.range }
+    record {
+      founds = compiled.founds;
+      made = compiled.made;
+      legal = chosen-legal c effort fitted compiled.founds laws is.fit compiled.chosen;
+      certified = chosen-certified c effort fitted compiled.founds laws is.fit compiled.chosen;
+      short = is.short;
+      some_rate = is.some_rate;
+      high_rate = is.high_rate;
+      fit = is.fit;
+      played = is.played;
+      range = is.range;
+    }
 
 -- what is made of a list stands in the image
 pub made-in-image : (base : ℕ) (outs : List SampleOut) (image : List ℕ) (j : ℕ) (out : SampleOut) (name : List ℕ) (rate : ℕ) (fitted : Fitted) (m : IsMade brr_codec out name rate fitted)
     → length outs ≤ 64 → All (IsOut brr_codec) outs → image_of base outs ≡ Ok image → slice_get outs j ≡ Some out
     → (track : Track) × InImage image j (track_entry brr brr_format rate track)
-    × Replays brr_codec (track_entry brr brr_format rate track) (sound_file rate (first_of brr_codec fitted m.list) (points_of 16 fitted)) rate fitted (error_of brr_codec fitted m.list)
+    × Replays brr_codec (track_entry brr brr_format rate track) (sound_file rate (first_of brr_codec fitted (list_in m.founds)) (points_of 16 fitted)) rate fitted (error_of brr_codec fitted (list_in m.founds))
 made-in-image base outs image j got name rate fitted m few are laid got_at =
-    let list = m.list in
+    let list = list_in m.founds in
     let is = stands brr_codec got name rate fitted m in
-    let out = out_of brr_codec name rate fitted list in
+    let out = out_of brr_codec name rate fitted m.founds in
     let at : slice_get outs j ≡ Some out = got_at ∙ ap (λ (o : SampleOut). Some o) m.made in
     let parts = map part_of outs in
     let count = length-map outs part_of in
@@ -172,7 +191,7 @@ made-in-image base outs image j got name rate fitted m few are laid got_at =
     let start = get_or (starts_in (4 * length parts) parts) j 0 in
     let again = get_or (agains_in (4 * length parts) parts) j 0 in
     let track = track_at memory start again fitted.blocks in
-    let is_stored = stored-list brr_rules brr_format memory start again list fitted brr_is_flagged m.chosen.legal.in_range stored in
+    let is_stored = stored-list brr_rules brr_format memory start again list fitted brr_is_flagged m.legal.in_range stored in
     let rates = get_or-map (λ (p : ImagePart). p.rate) parts j (part_of out) 0 (omega arith) ∙ ap (λ (p : ImagePart). p.rate) (get_or_from_slice_get parts j (part_of out) (part_of out) there) in (
       track,
       record {
@@ -183,22 +202,22 @@ made-in-image base outs image j got name rate fitted m few are laid got_at =
         track_is = track-read memory start again fitted.blocks (stored-track brr brr_format track list fitted.loop_block is_stored);
         entry_is = ap (λ n. track_entry brr brr_format n track) (sym rates);
       },
-      made-replays brr_codec got name rate fitted m (track_entry brr brr_format rate track) (track-entry brr_rules brr_format memory start again rate fitted list brr_is_flagged is.fit m.chosen.legal stored),
+      made-replays brr_codec got name rate fitted m (track_entry brr brr_format rate track) (track-entry brr_rules brr_format memory start again rate fitted list brr_is_flagged is.fit m.legal stored),
     )
 
 -- and stands in its VAG file
 pub made-in-vag : (out : SampleOut) (name : List ℕ) (rate : ℕ) (fitted : Fitted) (m : IsMade spu_codec out name rate fitted)
-    → (track : Track) × InVag (vag_file name rate (bytes_of spu_codec fitted m.list)) name (track_entry spu spu_format rate track)
-    × Replays spu_codec (track_entry spu spu_format rate track) (sound_file rate (first_of spu_codec fitted m.list) (points_of 28 fitted)) rate fitted (error_of spu_codec fitted m.list)
+    → (track : Track) × InVag (vag_file name rate (bytes_of spu_codec fitted (list_in m.founds))) name (track_entry spu spu_format rate track)
+    × Replays spu_codec (track_entry spu spu_format rate track) (sound_file rate (first_of spu_codec fitted (list_in m.founds)) (points_of 28 fitted)) rate fitted (error_of spu_codec fitted (list_in m.founds))
 made-in-vag got name rate fitted m =
-    let list = m.list in
+    let list = list_in m.founds in
     let is = stands spu_codec got name rate fitted m in
-    let out = out_of spu_codec name rate fitted list in
+    let out = out_of spu_codec name rate fitted m.founds in
     let len = out-length spu_rules spu_format out spu_is_stored is in
     let few = is.fit.whole.few in
     let track = track_at out.blocks 0 0 fitted.blocks in
     let stored = out-stored spu_rules spu_format out 0 spu_is_stored is (λ told. absurd (false≢true (sym told))) in
-    let is_stored = stored-list spu_rules spu_format out.blocks 0 0 list fitted spu_is_flagged m.chosen.legal.in_range stored in (
+    let is_stored = stored-list spu_rules spu_format out.blocks 0 0 list fitted spu_is_flagged m.legal.in_range stored in (
       track,
       record {
         vag = record { rate = rate; name = filled name; blocks = out.blocks };
@@ -208,5 +227,5 @@ made-in-vag got name rate fitted m =
         track_is = spu-read out.blocks list fitted.blocks fitted.loop_block (omega arith) is_stored;
         entry_is = refl;
       },
-      made-replays spu_codec got name rate fitted m (track_entry spu spu_format rate track) (track-entry spu_rules spu_format out.blocks 0 0 rate fitted list spu_is_flagged is.fit m.chosen.legal stored),
+      made-replays spu_codec got name rate fitted m (track_entry spu spu_format rate track) (track-entry spu_rules spu_format out.blocks 0 0 rate fitted list spu_is_flagged is.fit m.legal stored),
     )

@@ -1,6 +1,5 @@
 -- A stored first pass is read again, and is what the player of its blocks gives.
-use Rattle.std.proofs.Common.{◌≡◌, ℕ, ◌+◌, ◌*◌, ◌^◌, ◌<◌, ◌≤◌, refl, sym, ap, ◌∙◌, subst, arith, inl, inr, ℤ, pos, ◌*ℤ◌, List, length, get_or, map, Option, Some, None, Ok}
-use Rattle.std.specs.Prelude.{IfSome}
+use Rattle.std.proofs.Common.{◌≡◌, ℕ, ◌*◌, ◌^◌, ◌≤◌, refl, sym, ap, ◌∙◌, arith, inl, inr, ℤ, pos, ◌*ℤ◌, List, length, get_or, map, Option, Some, None, Ok}
 use Rattle.std.specs.List.{range_with_len}
 use Rattle.std.proofs.lemmas.Bool.{cases_lt}
 use Rattle.std.proofs.lemmas.Int.{ints}
@@ -23,9 +22,9 @@ use Rattle.smpl_loops.proofs.ReadAgain.{read_again}
 use Rattle.wave_form.specs.declared.wave.Wave.{Wave}
 use Rattle.wave_form.specs.Reading.{read_of}
 use Rattle.wave_form.proofs.ReadAgain.{sound_again, loop_again}
-use Rattle.bank_compile.specs.Codec.{IsFlagged, stored_codec, fixed_in}
-use Rattle.bank_compile.specs.Passes.{outputs_of}
-use Rattle.bank_compile.specs.Sample.{IsFit, AreWithin, first_of}
+use Rattle.bank_kinds.specs.Codec.{IsFlagged, stored_codec, fixed_in}
+use Rattle.bank_kinds.specs.Passes.{outputs_of}
+use Rattle.bank_kinds.specs.Fits.{IsFit, AreWithin, first_of}
 use Rattle.bank_compile.specs.Bank.{sound_file}
 use Rattle.bank_compile.proofs.StoredLaws.{heard-round, played-is, frames-are}
 

@@ -20,8 +20,8 @@ use Rattle.player_model.specs.Looped.{IsStoredAt, BeginsAnew, AreOutputs, loop_p
 use Rattle.player_model.specs.Track.{Track}
 use Rattle.player_model.proofs.StoredPlay.{stored-listed}
 use Rattle.player_model.proofs.StoredTracks.{IsStoredList}
-use Rattle.bank_compile.specs.Codec.{IsFlagged, stored_codec, fixed_in}
-use Rattle.bank_compile.specs.Sample.{IsFit, IsLooped, played_in, played_of}
+use Rattle.bank_kinds.specs.Codec.{IsFlagged, stored_codec, fixed_in}
+use Rattle.bank_kinds.specs.Fits.{IsFit, IsLooped, played_in, played_of}
 
 -- the track of a list that is stored from an address on
 abbrev pub track_at : List ℕ → ℕ → ℕ → ℕ → Track

@@ -11,7 +11,7 @@ use Rattle.machine_core.specs.Blocks.{Blocks, IsInRange}
 use Rattle.loop_fit.specs.Fit.{points_of}
 use Rattle.ima_wave.specs.declared.file.ImaFile.{ImaFile}
 use Rattle.ima_wave.specs.Written.{ima_file}
-use Rattle.manifest_reader.specs.Stored.{first_pass_of, vag_name_of, ima_name_of}
+use Rattle.manifest_reader.specs.Stored.{first_pass_of, vag_name_of, ima_name_of, cert_name_of}
 use Rattle.wave_form.specs.Written.{wave_file, wave_loop_file}
 use Rattle.snes_directory.specs.declared.part.ImagePart.{ImagePart}
 use Rattle.snes_directory.specs.declared.fault.LayFault.{LayFault}
@@ -19,9 +19,9 @@ use Rattle.snes_directory.specs.Layout.{end_of}
 use Rattle.snes_directory.specs.Spelling.{image_file}
 use Rattle.vag_writer.specs.Spelling.{vag_file}
 use Rattle.bank_compile.specs.declared.sample.SampleOut.{SampleOut}
-use Rattle.bank_compile.specs.Codec.{Codec}
-use Rattle.bank_compile.specs.Kinds.{codec_for}
-use Rattle.bank_compile.specs.Sample.{IsFit, played_of, bytes_of}
+use Rattle.bank_kinds.specs.Codec.{Codec}
+use Rattle.bank_kinds.specs.Kinds.{codec_for}
+use Rattle.bank_kinds.specs.Fits.{IsFit, played_of, bytes_of}
 
 -- a compiled sample that can stand in a bank, whatever list its blocks spell
 pub record IsOut (c : Codec) (out : SampleOut) : Type 0 where
@@ -62,15 +62,19 @@ wave_of align out = record { rate = out.rate; align = align; frames = out.fitted
 abbrev pub ima_out : ℕ → List ℕ → SampleOut → NamedFile
 ima_out align bank out = record { name = ima_name_of bank out.name; bytes = ima_file (wave_of align out) }
 
+-- the file of a sample's certificate
+abbrev pub cert_file : List ℕ → SampleOut → NamedFile
+cert_file bank out = record { name = cert_name_of bank out.name; bytes = out.cert }
+
 -- the file that holds the blocks of a sample alone, where there is one
 abbrev pub own_files : Kind → ℕ → List ℕ → SampleOut → List NamedFile
 own_files Brr block bank out = []
 own_files Spu block bank out = vag_out bank out ∷ []
 own_files Ima block bank out = ima_out block bank out ∷ []
 
--- the files of a sample
+-- the files of a sample: its blocks where they have a file, its first pass, and its certificate
 abbrev pub sample_files : Kind → ℕ → List ℕ → SampleOut → List NamedFile
-sample_files kind block bank out = own_files kind block bank out ++ first_file (codec_for kind block).rules.decoder.samples bank out ∷ []
+sample_files kind block bank out = own_files kind block bank out ++ first_file (codec_for kind block).rules.decoder.samples bank out ∷ cert_file bank out ∷ []
 
 -- the image, unless the samples pass the end of the console's memory
 unfoldable pub image_of : ℕ → List SampleOut → Result (List ℕ) LayFault

@@ -1,11 +1,5 @@
-pub mod Beam
-pub mod Chosen
-pub mod Passes
-pub mod Codec
-pub mod Kinds
-pub mod Laws
+pub mod Segment
 pub mod Sample
-pub mod Bound
+pub mod Known
 pub mod Bank
 pub mod Told
-pub mod Replay

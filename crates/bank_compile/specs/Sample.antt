@@ -1,102 +1,78 @@
--- One sample of a bank: what may be chosen for it, and what is stored and told of the choice.
-use Rattle.std.specs.Prelude.{◌≡◌, ◌<◌, ◌≤◌, ℕ, ◌*◌, ℤ, List, [], ◌∷◌, length, Option, Some, None, IfSome}
-use Rattle.adpcm_nums.specs.declared.loop_at.LoopAt.{LoopAt}
-use Rattle.machine_core.specs.declared.state.Kind.{Kind}
-use Rattle.machine_core.specs.declared.state.Kind.TheVariants.{Brr, Spu, Ima}
-use Rattle.machine_core.specs.Blocks.{Blocks, IsLegal}
-use Rattle.machine_core.specs.Sums.{sum_of}
-use Rattle.machine_core.specs.Floors.{floor_of_blocks}
+-- One sample of a bank: what is found for its segments, and what is stored and told of that.
+use Rattle.std.specs.Prelude.{◌≡◌, ℕ, ◌+◌, ◌/◌, ℤ, List, [], ◌∷◌, length, map}
+use Rattle.std.specs.Bool.{⊤}
+use Rattle.std.specs.List.{sum_by}
+use Rattle.machine_core.specs.Blocks.{Blocks}
+use Rattle.machine_core.specs.Rules.{Rules}
+use Rattle.machine_core.specs.Segments.{part_targets, joined}
 use Rattle.loop_fit.specs.declared.fitted.Fitted.{Fitted}
-use Rattle.loop_fit.specs.Fit.{IsWhole, points_of}
-use Rattle.loop_fit.specs.Segments.{segments_of}
-use Rattle.report_text.specs.declared.report.LoopShown.{LoopShown}
-use Rattle.report_text.specs.declared.report.LoopShown.TheVariants.{NoLoop, Block, Frames}
+use Rattle.beam_encoder.specs.Beam.{beam_sum}
+use Rattle.bound_cert.specs.Spelling.{cert_bytes}
+use Rattle.branch_bound.specs.declared.top.Found.{Found}
 use Rattle.report_text.specs.declared.report.SampleReport.{SampleReport}
 use Rattle.bank_compile.specs.declared.sample.SampleOut.{SampleOut}
-use Rattle.bank_compile.specs.Beam.{beam_list}
-use Rattle.bank_compile.specs.Passes.{outputs_of}
-use Rattle.bank_compile.specs.Codec.{Codec, fixed_in}
+use Rattle.bank_compile.specs.Segment.{IsFound}
+use Rattle.bank_kinds.specs.Chosen.{list_of}
+use Rattle.bank_kinds.specs.Codec.{Codec}
+use Rattle.bank_kinds.specs.Certified.{levels_of, segments_in}
+use Rattle.bank_kinds.specs.Fits.{bytes_of, first_of, error_of, loop_shown}
 
--- how many outputs count as played: those of all blocks, or in IMA ADPCM as many as the source has frames
-abbrev pub played_in : Kind → ℕ → Fitted → ℕ
-played_in Brr samples fitted = fitted.blocks * samples
-played_in Spu samples fitted = fitted.blocks * samples
-played_in Ima samples fitted = fitted.frames
+-- how a sample is searched: the beam's width, and how many cells all its segments may list
+pub record Effort : Type 0 where
+  pub width : ℕ
+  pub budget : ℕ
 
-abbrev pub played_of : Codec → Fitted → ℕ
-played_of c fitted = played_in c.rules.kind c.rules.decoder.samples fitted
+-- what is found for each segment from block b on
+abbrev pub AreFound : Rules → ℕ → ℕ → List ℤ → ℕ → List ℕ → List Found → Type 0
+AreFound r width share targets b [] [] = ⊤
+AreFound r width share targets b [] (f ∷ fs) = ⊥
+AreFound r width share targets b (count ∷ counts) [] = ⊥
+AreFound r width share targets b (count ∷ counts) (f ∷ fs) =
+    IsFound r width share (part_targets r.decoder targets b count) count f × AreFound r width share targets (b + count) counts fs
 
--- a loop lies on whole blocks, or in IMA ADPCM at its frames
-abbrev pub IsLooped : Kind → Fitted → Type 0
-IsLooped Brr fitted = fitted.loop_frames ≡ None
-IsLooped Spu fitted = fitted.loop_frames ≡ None
-IsLooped Ima fitted = fitted.loop_block ≡ None
+-- their lists, one after another
+abbrev pub list_in : List Found → Blocks
+list_in [] = record { heads = []; symbols = [] }
+list_in (f ∷ fs) = joined (list_of f.choice) (list_in fs)
 
--- points that stand among so many samples
-abbrev pub AreWithin : ℕ → Option LoopAt → Type 0
-AreWithin count points = IfSome points (λ at. (at.start ≤ at.end) × (at.end < count))
+-- the cells that each segment of a fitted sound may list
+abbrev pub share_of : Codec → Effort → Fitted → ℕ
+share_of c effort fitted = effort.budget / length (segments_in c fitted)
 
--- a sound fitted to blocks of a codec
-pub record IsFit (c : Codec) (fitted : Fitted) : Type 0 where
-  pub whole : IsWhole c.rules.decoder.samples fitted
-  pub looped : IsLooped c.rules.kind fitted
-  -- what is played stands in its blocks, and the loop in what is played
-  pub played : played_of c fitted ≤ fitted.blocks * c.rules.decoder.samples
-  pub points : AreWithin (played_of c fitted) (points_of c.rules.decoder.samples fitted)
+-- what is found for a fitted sound, segment by segment
+abbrev pub IsChosen : Codec → Effort → Fitted → List Found → Type 0
+IsChosen c effort fitted founds = AreFound c.rules effort.width (share_of c effort fitted) fitted.targets 0 (segments_in c fitted) founds
 
--- the list of blocks that is stored for a fitted sound
-pub record IsChosen (c : Codec) (fitted : Fitted) (list : Blocks) : Type 0 where
-  pub legal : IsLegal c.rules.decoder fitted.blocks (fixed_in c fitted) list
-  -- it is the choice of the beam of width 1
-  pub beam : list ≡ beam_list c.rules.decoder (fixed_in c fitted) fitted.targets fitted.blocks
-
--- the stored bytes
-abbrev pub bytes_of : Codec → Fitted → Blocks → List ℕ
-bytes_of c fitted list = c.bytes list fitted.blocks fitted.loop_block
-
--- the stored first pass: the outputs that are played, as they are compared with the source
-abbrev pub first_of : Codec → Fitted → Blocks → List ℤ
-first_of c fitted list = outputs_of c.rules.decoder list (played_of c fitted)
-
--- the exact squared error, padding included
-abbrev pub error_of : Codec → Fitted → Blocks → ℕ
-error_of c fitted list = sum_of c.rules.decoder list fitted.targets fitted.blocks
-
--- the bound that is told of it: the sum of the floors of its blocks
-unfoldable pub bound_of : Codec → Fitted → ℕ
-bound_of c fitted = floor_of_blocks c.rules (fixed_in c fitted) fitted.targets fitted.blocks
-
--- how its loop is told: by the loop block, or by its frames
-abbrev pub loop_shown : Option ℕ → Option LoopAt → LoopShown
-loop_shown (Some block) frames = Block block
-loop_shown None (Some at) = Frames at
-loop_shown None None = NoLoop
-
--- what is told of the sample; no segment is searched
-abbrev pub report_of : Codec → List ℕ → Fitted → Blocks → SampleReport
-report_of c name fitted list = record {
+-- what is told of the sample
+abbrev pub report_of : Codec → List ℕ → Fitted → List Found → SampleReport
+report_of c name fitted founds = record {
   name = name;
   blocks = fitted.blocks;
   shown = loop_shown fitted.loop_block fitted.loop_frames;
-  error = error_of c fitted list;
-  bound = bound_of c fitted;
-  levels = 0 ∷ 0 ∷ 0 ∷ length (segments_of c.rules.kind fitted.blocks fitted.loop_block) ∷ [];
+  error = error_of c fitted (list_in founds);
+  bound = sum_by (λ f. f.cert.bound) founds;
+  levels = levels_of (map (λ f. f.cert.level) founds);
 }
 
--- what is made of a choice; no certificate yet
-abbrev pub out_of : Codec → List ℕ → ℕ → Fitted → Blocks → SampleOut
-out_of c name rate fitted list = record {
+-- what is made of what was found
+abbrev pub out_of : Codec → List ℕ → ℕ → Fitted → List Found → SampleOut
+out_of c name rate fitted founds = record {
   name = name;
   rate = rate;
-  blocks = bytes_of c fitted list;
+  blocks = bytes_of c fitted (list_in founds);
   fitted = fitted;
-  first = first_of c fitted list;
-  cert = [];
-  report = report_of c name fitted list;
+  first = first_of c fitted (list_in founds);
+  cert = cert_bytes c.rules.kind (map (λ f. f.cert) founds);
+  report = report_of c name fitted founds;
 }
 
--- a fitted sound was compiled: some list was chosen for it, and all else is made of that
-pub record IsCompiled (c : Codec) (name : List ℕ) (rate : ℕ) (fitted : Fitted) (out : SampleOut) : Type 0 where
-  pub list : Blocks
-  pub chosen : IsChosen c fitted list
-  pub made : out ≡ out_of c name rate fitted list
+-- a fitted sound was compiled: its segments were searched, and all else is made of what was found
+pub record IsCompiled (c : Codec) (effort : Effort) (name : List ℕ) (rate : ℕ) (fitted : Fitted) (out : SampleOut) : Type 0 where
+  pub founds : List Found
+  pub chosen : IsChosen c effort fitted founds
+  pub made : out ≡ out_of c name rate fitted founds
+
+-- the sums of the beams' choices for the segments from block b on
+abbrev pub beam_sums : Rules → ℕ → List ℤ → ℕ → List ℕ → ℕ
+beam_sums r width targets b [] = 0
+beam_sums r width targets b (count ∷ counts) = beam_sum r.decoder width (part_targets r.decoder targets b count) + beam_sums r width targets (b + count) counts

@@ -5,17 +5,17 @@ ghost use Rattle.loop_fit.specs.Fit.{IsWhole, points_of};
 ghost use Rattle.ima_machine.specs.Ima.{is_align};
 ghost use Rattle.manifest_reader.specs.Ranges.{IsWithin};
 ghost use Rattle.snes_directory.specs.declared.fault.LayFault.TheVariants.{NoMemory as OutOfMemory};
-ghost use Rattle.bank_compile.specs.Kinds.{brr_codec, spu_codec, ima_codec, codec_for};
-ghost use Rattle.bank_compile.specs.Bank.{IsOut, part_of, first_file, vag_out, ima_out, own_files, sample_files, image_of, image_files, bank_of};
+ghost use Rattle.bank_kinds.specs.Kinds.{brr_codec, spu_codec, ima_codec, codec_for};
+ghost use Rattle.bank_compile.specs.Bank.{IsOut, part_of, first_file, vag_out, ima_out, cert_file, own_files, sample_files, image_of, image_files, bank_of};
 
-use crate::kinds::samples_in_block;
 use crate::sample::SampleOut;
 use adpcm_nums::{Bytes, LoopAt, NoMemory, Text};
+use bank_kinds::samples_in_block;
 use host_files::NamedFile;
 use ima_wave::{ImaFile, write_ima};
 use loop_fit::Fitted;
 use machine_core::Kind;
-use manifest_reader::{Manifest, first_pass_name, ima_name, vag_name};
+use manifest_reader::{Manifest, cert_name, first_pass_name, ima_name, vag_name};
 use snes_directory::{ImagePart, LayFault, write_image};
 use std::alloc::Global;
 use vag_writer::write_vag;
@@ -120,6 +120,15 @@ fn ima_file(alloc: Global, align: u32, bank: &str, out: &SampleOut) -> Result<Na
     Ok(NamedFile { name, bytes })
 }
 
+/// The file of a sample's certificate.
+fn cert_file(alloc: Global, bank: &str, out: &SampleOut) -> Result<NamedFile, NoMemory>
+    ensures { IfOk result (λ file. file ≡ cert_file bank.now out.now) }
+{
+    let bytes = Bytes::copy_of(alloc, out.cert.as_slice())?;
+    let name = cert_name(alloc, bank, out.name.as_str())?;
+    Ok(NamedFile { name, bytes })
+}
+
 /// Adds a file.
 fn push_file(files: &mut Vec<NamedFile>, file: NamedFile) -> Result<(), NoMemory>
     ensures { OnOk result (files.new.items ≡ files.old.items ++ file ∷ []) }
@@ -164,7 +173,8 @@ fn push_sample(
     ensures { OnOk result (files.new.items ≡ files.old.items ++ sample_files kind block bank.now out.now) }
 {
     push_own(alloc, kind, block, files, bank, out)?;
-    push_file(files, first_file(alloc, kind, block, bank, out)?)
+    push_file(files, first_file(alloc, kind, block, bank, out)?)?;
+    push_file(files, cert_file(alloc, bank, out)?)
 }
 
 /// Adds the files of all samples.
@@ -210,9 +220,9 @@ fn image_files(
     Ok(files)
 }
 
-/// The files of a bank in store order: in BRR the image under the bank's name; then for each sample, in SPU-ADPCM its VAG
-/// file, `BANK.SAMPLE.vag`, in IMA ADPCM its WAVE file, `BANK.SAMPLE.wav`, and the WAVE file of its first pass, `BANK.SAMPLE.first.wav`, with its loop (this project's own
-/// choice).
+/// The files of a bank in store order: in BRR the image under the bank's name; then for each sample, in SPU-ADPCM its VAG file, `BANK.SAMPLE.vag`,
+/// in IMA ADPCM its WAVE file, `BANK.SAMPLE.wav`, then the WAVE file of its first pass, `BANK.SAMPLE.first.wav`, with its loop, and its certificate,
+/// `BANK.SAMPLE.cert` (this project's own choice).
 ///
 /// # Errors
 /// `ImageFull` exactly where the samples of an image pass the console's memory of 65,536 bytes. `BadBase` never comes.

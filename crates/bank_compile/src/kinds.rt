@@ -1,7 +1,11 @@
-ghost use Rattle.std.specs.Prelude.{◌≡◌, ◌≤◌, IsTrue, IfOk, length};
+ghost use Rattle.std.specs.Prelude.{◌≡◌, ◌≤◌, ◌∷◌, [], ℕ, IsTrue, IfOk, length};
 ghost use Rattle.ima_machine.specs.Ima.{is_align};
-ghost use Rattle.bank_compile.specs.Kinds.{codec_for};
-ghost use Rattle.bank_compile.specs.Sample.{IsFit, IsCompiled};
+ghost use Rattle.manifest_reader.specs.Ranges.{IsWithin};
+ghost use Rattle.bank_kinds.specs.Bound.{IsBound};
+ghost use Rattle.bank_kinds.specs.Certified.{IsCertified, segments_in};
+ghost use Rattle.bank_kinds.specs.Kinds.{codec_for};
+ghost use Rattle.bank_kinds.specs.Fits.{IsFit};
+ghost use Rattle.bank_compile.specs.Sample.{IsCompiled, beam_sums};
 ghost use Rattle.bank_compile.specs.Bank.{IsOut};
 
 use crate::sample::{SampleOut, encoded};
@@ -14,25 +18,14 @@ use manifest_reader::Manifest;
 use spu_machine::Spu;
 use std::alloc::Global;
 
-/// How many samples a block of a kind has, where blocks of IMA ADPCM have so many bytes.
-#[tactic(auto, using(ima_machine::proofs::Aligns::align_low, ima_machine::proofs::Aligns::align_high))]
-pub fn samples_in_block(kind: Kind, block: u32) -> u32
-    requires { IsTrue (is_align block) }
-    ensures value { result ≡ (codec_for kind block).rules.decoder.samples }
-    ensures some { 1 ≤ result }
-    ensures few { result ≤ 2041 }
-{
-    match kind {
-        Kind::Brr => 16,
-        Kind::Spu => 28,
-        Kind::Ima => 2 * (block - 4) + 1,
-    }
-}
-
-/// Compiles a fitted sound to blocks of the manifest's format: chooses them, and tells how far they are from it.
+/// Compiles a fitted sound to blocks of the manifest's format: chooses them, tells how far they are from it, and certifies a bound under the
+/// error of every choice.
 ///
-/// The choice is the beam's of width 1: block after block, the head whose nearest symbols cost least. The bound that is told
-/// is the sum of the blocks' floors, and no segment is searched. Only want of memory is refused.
+/// Each segment is searched alone: first by the beam of the manifest's width, and then by cells of states, of which all segments together may list
+/// as many as the manifest's budget says. The error is at most the sum of the beams' errors; no choice has an error below the bound; and where every
+/// segment is searched state by state, the bound is the error, so no choice is better. All of it is this project's own choice.
+///
+/// It refuses only for want of memory.
 pub fn compile_sample(
     alloc: Global,
     manifest: &Manifest,
@@ -41,22 +34,30 @@ pub fn compile_sample(
     fitted: Fitted,
 ) -> Result<SampleOut, NoMemory>
     requires block { IsTrue (is_align manifest.now.block) }
+    requires beam { IsWithin 1 64 1 manifest.now.beam }
     requires short { length name.now ≤ 16 }
     requires some_rate { 1 ≤ rate }
     requires high_rate { rate ≤ 1000000 }
     requires fit { IsFit (codec_for manifest.now.kind manifest.now.block) fitted }
-    ensures compiled { IfOk result (IsCompiled (codec_for manifest.now.kind manifest.now.block) name.now rate fitted) }
+    ensures compiled { IfOk result (IsCompiled (codec_for manifest.now.kind manifest.now.block) (record { width = manifest.now.beam; budget = manifest.now.budget }) name.now rate fitted) }
     ensures out { IfOk result (IsOut (codec_for manifest.now.kind manifest.now.block)) }
+    ensures certified { IfOk result (λ out. IsCertified (codec_for manifest.now.kind manifest.now.block) out.cert fitted out.report.bound out.report.levels) }
+    ensures lowest { IfOk result (λ out. IsBound (codec_for manifest.now.kind manifest.now.block) fitted out.report.bound) }
     ensures bound { IfOk result (λ out. out.report.bound ≤ out.report.error) }
+    ensures whole { IfOk result (λ out. (n : ℕ) → out.report.levels ≡ n ∷ 0 ∷ 0 ∷ 0 ∷ [] → out.report.bound ≡ out.report.error) }
+    ensures near_beam { IfOk result (λ out. out.report.error
+        ≤ beam_sums (codec_for manifest.now.kind manifest.now.block).rules manifest.now.beam fitted.targets 0 (segments_in (codec_for manifest.now.kind manifest.now.block) fitted)) }
 {
+    let width = manifest.beam;
+    let budget = manifest.budget;
     match manifest.kind {
-        Kind::Brr => encoded(alloc, &Brr, name, rate, fitted),
-        Kind::Spu => encoded(alloc, &Spu, name, rate, fitted),
+        Kind::Brr => encoded(alloc, &Brr, name, rate, width, budget, fitted),
+        Kind::Spu => encoded(alloc, &Spu, name, rate, width, budget, fitted),
         Kind::Ima => {
             let ima = Ima {
                 align: manifest.block,
             };
-            encoded(alloc, &ima, name, rate, fitted)
+            encoded(alloc, &ima, name, rate, width, budget, fitted)
         }
     }
 }

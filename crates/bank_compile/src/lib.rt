@@ -2,25 +2,17 @@
 #![tactic(auto)]
 
 mod bank;
-mod brr;
-mod encode;
-mod greedy;
-mod head;
-mod ima;
+mod joined;
 mod kinds;
-mod laws;
-mod near;
-mod passes;
 mod replay;
 mod sample;
-mod spell;
-mod spu;
+mod segment;
+mod segments;
 mod told;
 
 pub use bank::compile_bank;
 pub use host_files::NamedFile;
-pub use kinds::{compile_sample, samples_in_block};
-pub use laws::{bound_holds, fit_is_ready, kinds_encode};
+pub use kinds::compile_sample;
 pub use replay::stored_bank_replays;
 pub use sample::SampleOut;
 pub use told::report;

@@ -1,31 +1,21 @@
-ghost use Rattle.std.specs.Prelude.{◌≡◌, length, IfOk, IfSome};
-ghost use Rattle.adpcm_nums.specs.Sample.{IsSample};
+ghost use Rattle.std.specs.Prelude.{◌≡◌, ◌≤◌, length, IfOk, IfSome};
+ghost use Rattle.adpcm_nums.specs.Sample.{AreSamples};
 ghost use Rattle.loop_fit.specs.Source.{IsLoopIn};
 
 use super::*;
-use adpcm_nums::{LoopAt, NoMemory, Samples, Text};
+use adpcm_nums::{LoopAt, NoMemory, Text};
+use bank_kinds::{fit_is_ready, samples_in_block};
 use loop_fit::{FitFault, FitRule, Length, Start, fit};
 use machine_core::Kind;
 use manifest_reader::Manifest;
 use std::alloc::Global;
 use std::test::*;
 
-// So many frames of one value.
-fn constant(alloc: Global, value: i32, frames: u32) -> Result<Samples, NoMemory>
-    requires { IsSample value }
-    ensures { IfOk result (λ samples. length samples ≡ frames) }
-{
-    let mut samples = Samples::from_vec(Vec::new(alloc));
-    for _frame in 0..frames {
-        samples.push(value)?;
-    }
-    Ok(samples)
-}
-
 // A manifest of a bank of this kind, which names no sample.
 fn manifest(alloc: Global, kind: Kind) -> Result<Manifest, NoMemory>
     ensures kind { IfOk result (λ m. m.kind ≡ kind) }
     ensures block { IfOk result (λ m. m.block ≡ 8) }
+    ensures beam { IfOk result (λ m. m.beam ≡ 1) }
 {
     Ok(Manifest {
         kind,
@@ -40,61 +30,68 @@ fn manifest(alloc: Global, kind: Kind) -> Result<Manifest, NoMemory>
     })
 }
 
-// So many frames of one value with this loop, fitted and compiled for a bank of this kind.
+// These frames with this loop, fitted and compiled for a bank of this kind, with blocks of 8 bytes in IMA ADPCM.
 fn compiled(
     alloc: Global,
     kind: Kind,
-    value: i32,
-    frames: u32,
+    frames: &[i32],
     at: Option<LoopAt>,
 ) -> Result<SampleOut, FitFault>
-    requires value { IsSample value }
-    requires loop_in { IfSome at (IsLoopIn frames) }
+    requires few { length frames.now ≤ 64 }
+    requires frames { AreSamples frames.now }
+    requires loop_in { IfSome at (IsLoopIn (length frames.now)) }
 {
     fit_is_ready();
-    let samples = constant(alloc, value, frames)?;
     let rule = FitRule {
         kind,
         block: samples_in_block(kind, 8),
         length: Length::Unroll,
         start: Start::Front,
     };
-    let fitted = fit(alloc, samples.as_slice(), at, rule)?;
+    let fitted = fit(alloc, frames, at, rule)?;
     let manifest = manifest(alloc, kind)?;
     Ok(compile_sample(alloc, &manifest, "tone", 32_000, fitted)?)
 }
 
+// The blocks before the loop are one segment, and those of the loop another; all bounds are reached by the beam, so no cell is needed.
 #[test]
 fn silence_repeats_from_its_second_block(rt: HostRuntime) -> Result<(), Fail> {
     let rest = Some(LoopAt { start: 16, end: 47 });
-    let out = compiled(rt.alloc(), Kind::Brr, 0, 48, rest).map_err(|_| "a sample")?;
-    assert_eq!(rt; out.fitted.loop_block, Some(1));
-    assert_eq!(rt;
-        out.blocks.as_slice(),
-        [
-            0, 0, 0, 0, 0, 0, 0, 0, 0, 0, 0, 0, 0, 0, 0, 0, 0, 0, 3, 0, 0, 0, 0, 0, 0, 0, 0,
-        ]
-        .as_slice()
-    );
+    let out = compiled(rt.alloc(), Kind::Brr, &[0; 48], rest).map_err(|_| "a sample")?;
+    assert_eq!(rt; (out.fitted.blocks, out.fitted.loop_block), (3, Some(1)));
+    let blocks = [
+        0, 0, 0, 0, 0, 0, 0, 0, 0, 0, 0, 0, 0, 0, 0, 0, 0, 0, 3, 0, 0, 0, 0, 0, 0, 0, 0,
+    ];
+    assert_eq!(rt; out.blocks.as_slice(), blocks.as_slice());
     assert_eq!(rt; (out.report.error, out.report.bound), (0, 0));
+    assert_eq!(rt; out.report.levels, [2, 0, 0, 0]);
     Ok(())
 }
 
 // Outputs of BRR are even, so each sample of 1 costs 1, whatever is chosen.
 #[test]
 fn ones_cost_one_each(rt: HostRuntime) -> Result<(), Fail> {
-    for (frames, blocks, error) in [(16, 1, 16), (1040, 65, 1040)] {
-        let out = compiled(rt.alloc(), Kind::Brr, 1, frames, None).map_err(|_| "a sample")?;
-        assert_eq!(rt; out.fitted.blocks, blocks);
-        assert_eq!(rt; (out.report.error, out.report.bound), (error, error));
-    }
+    let out = compiled(rt.alloc(), Kind::Brr, &[1; 16], None).map_err(|_| "a sample")?;
+    assert_eq!(rt; (out.report.error, out.report.bound), (16, 16));
+    Ok(())
+}
+
+// A segment of one block at level 0, with bound 0 and no layers.
+#[test]
+fn silence_has_a_short_certificate(rt: HostRuntime) -> Result<(), Fail> {
+    let all = Some(LoopAt { start: 0, end: 15 });
+    let out = compiled(rt.alloc(), Kind::Brr, &[0; 16], all).map_err(|_| "a sample")?;
+    let bytes = [
+        0x41, 0x44, 0x42, 0x43, 1, 0, 1, 0, 1, 0, 0, 0, 0, 0, 0, 0, 0, 0, 0, 0, 0, 0, 0, 0,
+    ];
+    assert_eq!(rt; out.cert.as_slice(), bytes.as_slice());
     Ok(())
 }
 
 // No output of SPU-ADPCM under filter 0 is above 7 * 4096, and each of the 28 comes 4095 short of 32767.
 #[test]
 fn the_loudest_block_of_spu(rt: HostRuntime) -> Result<(), Fail> {
-    let out = compiled(rt.alloc(), Kind::Spu, 32767, 28, None).map_err(|_| "a sample")?;
+    let out = compiled(rt.alloc(), Kind::Spu, &[32767; 28], None).map_err(|_| "a sample")?;
     let mut block = [0x77; 16];
     block[0] = 0;
     block[1] = 1;
@@ -106,26 +103,13 @@ fn the_loudest_block_of_spu(rt: HostRuntime) -> Result<(), Fail> {
     Ok(())
 }
 
+// The first output is the target, and a step of 7 may go up by a part of it that is nothing or one.
 #[test]
-fn one_frame_of_spu_repeats(rt: HostRuntime) -> Result<(), Fail> {
-    let all = Some(LoopAt { start: 0, end: 0 });
-    let out = compiled(rt.alloc(), Kind::Spu, 0, 1, all).map_err(|_| "a sample")?;
-    assert_eq!(rt; out.fitted.unroll, 28);
-    assert_eq!(rt;
-        out.blocks.as_slice(),
-        [0, 7, 0, 0, 0, 0, 0, 0, 0, 0, 0, 0, 0, 0, 0, 0].as_slice()
-    );
-    Ok(())
-}
-
-// The first output is the target, and code 1 of step index 0 goes up by 1 step in 4 of 7: nothing.
-#[test]
-fn a_block_of_ima_ends_the_sample(rt: HostRuntime) -> Result<(), Fail> {
-    let at = Some(LoopAt { start: 2, end: 3 });
-    let out = compiled(rt.alloc(), Kind::Ima, -2, 5, at).map_err(|_| "a sample")?;
-    assert_eq!(rt; out.fitted.blocks, 1);
-    assert_eq!(rt; out.fitted.loop_frames, at);
-    assert_eq!(rt; out.first.as_slice().len(), 5);
-    assert_eq!(rt; out.report.levels, [0, 0, 0, 1]);
+fn a_block_of_ima_is_exact(rt: HostRuntime) -> Result<(), Fail> {
+    let frames = [0, 1, 1, 1, 1, 1, 1, 1, 1];
+    let out = compiled(rt.alloc(), Kind::Ima, &frames, None).map_err(|_| "a sample")?;
+    assert_eq!(rt; (out.fitted.blocks, out.first.as_slice().len()), (1, 9));
+    assert_eq!(rt; (out.report.error, out.report.bound), (0, 0));
+    assert_eq!(rt; out.report.levels, [1, 0, 0, 0]);
     Ok(())
 }

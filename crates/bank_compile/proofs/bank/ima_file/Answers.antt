@@ -1,6 +1,5 @@
-use Rattle.std.proofs.Common.{◌≡◌, ◌<◌, ◌^◌, ℕ, List, length, sym, subst, ap, ◌∙◌}
+use Rattle.std.proofs.Common.{◌≡◌, ◌<◌, ◌^◌, ℕ, List, length, sym, subst, ◌∙◌}
 use Rattle.ima_wave.specs.Files.{IsImaFile}
-use Rattle.ima_wave.specs.declared.file.ImaFile.{ImaFile}
 use Rattle.bank_compile.proofs.ImaReplays.{ima-file, ima-small}
 use Rattle.bank_compile.proofs.bank.ima_file.Goals as goal
 

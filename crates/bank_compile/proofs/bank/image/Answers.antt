@@ -8,7 +8,7 @@ use Rattle.snes_directory.specs.declared.fault.LayFault.{LayFault}
 use Rattle.snes_directory.specs.declared.fault.LayFault.TheVariants.{NoMemory}
 use Rattle.snes_directory.specs.Part.{IsPart}
 use Rattle.snes_directory.specs.Spelling.{written_image}
-use Rattle.bank_compile.specs.Kinds.{brr_codec}
+use Rattle.bank_kinds.specs.Kinds.{brr_codec}
 use Rattle.bank_compile.specs.Bank.{IsOut}
 use Rattle.bank_compile.proofs.OutLaws.{out-parts, image-written}
 use Rattle.bank_compile.proofs.bank.image.Goals as goal

@@ -2,7 +2,7 @@ use Rattle.std.proofs.Common.{◌≡◌, ap, arith, List, ℕ, length}
 use Rattle.vag_writer.specs.Spelling.{vag_file}
 use Rattle.player_model.specs.SpuFormat.{spu_format}
 use Rattle.spu_machine.specs.SpuRules.{spu_rules}
-use Rattle.bank_compile.specs.Laws.{spu_is_stored}
+use Rattle.bank_kinds.specs.Laws.{spu_is_stored}
 use Rattle.bank_compile.proofs.OutLaws.{out-length, vag-written}
 use Rattle.bank_compile.proofs.bank.vag_file.Goals as goal
 

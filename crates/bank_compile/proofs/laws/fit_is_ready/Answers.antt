@@ -1,5 +1,0 @@
-use Rattle.bank_compile.proofs.FittedLaws.{fit_of-ready}
-use Rattle.bank_compile.proofs.laws.fit_is_ready.Goals as goal
-
-pub returns : goal.returns
-returns c = fit_of-ready

@@ -1,5 +1,0 @@
-use Rattle.bank_compile.specs.Laws.{is_codec_for}
-use Rattle.bank_compile.proofs.laws.kinds_encode.Goals as goal
-
-pub returns : goal.returns
-returns c = is_codec_for

@@ -1,0 +1,121 @@
+ghost use Rattle.std.specs.Prelude.{◌≡◌, ◌<◌, ◌≤◌, ◌+◌, ◌*◌, ◌^◌, ◌/◌, IfOk, All, length, sum};
+ghost use Rattle.std.specs.List.{sum_by};
+ghost use Rattle.adpcm_nums.specs.Sample.{AreSamples};
+ghost use Rattle.machine_core.specs.Segments.{part_targets};
+ghost use Rattle.bound_cert.specs.Filed.{IsFiled};
+ghost use Rattle.beam_encoder.specs.Beam.{beam_sum};
+ghost use Rattle.bank_kinds.specs.Codec.{codec_of};
+ghost use Rattle.bank_kinds.specs.Fits.{IsFit};
+ghost use Rattle.bank_kinds.specs.Certified.{segments_in};
+ghost use Rattle.bank_compile.specs.Segment.{IsFound};
+ghost use Rattle.bank_compile.specs.Sample.{AreFound, IsChosen, beam_sums};
+ghost use Rattle.bank_compile.specs.Known.{IsKnown};
+
+use crate::segment::search_segment;
+use adpcm_nums::NoMemory;
+use bank_kinds::{Encode, certified_bounds_hold};
+use branch_bound::Found;
+use loop_fit::{Fitted, segments};
+use machine_core::Machine;
+use std::alloc::Global;
+
+/// Searches the segment of `count` blocks that begins with block `first`.
+fn search_part<M: Machine>(
+    alloc: Global,
+    machine: &M,
+    targets: &[i32],
+    first: u32,
+    count: u32,
+    width: u32,
+    share: u32,
+) -> Result<Found, NoMemory>
+    requires within { (first + count) * (M.rules machine.now).decoder.samples ≤ length targets.now }
+    requires small { length targets.now ≤ 262144 }
+    requires range { AreSamples targets.now }
+    requires blocks { 0 < count }
+    requires few_blocks { count < 65536 }
+    requires some { 0 < width }
+    requires few { width ≤ 64 }
+    requires filed { IsFiled (M.rules machine.now) }
+    requires room { (M.rules machine.now).decoder.heads * (M.rules machine.now).floor_len < 2 ^ 31 }
+    ensures found { IfOk result (IsFound (M.rules machine.now) width share (part_targets (M.rules machine.now).decoder targets.now first count) count) }
+    ensures near_beam { IfOk result (λ f. f.choice.sum ≤ beam_sum (M.rules machine.now).decoder width (part_targets (M.rules machine.now).decoder targets.now first count)) }
+{
+    let samples = machine.block_samples() as usize;
+    let start = first as usize * samples;
+    let end = start + count as usize * samples;
+    match search_segment(alloc, machine, &targets[start..end], width, share) {
+        Ok(found) => Ok(found),
+        Err(e) => Err(e),
+    }
+}
+
+/// Searches segments of so many blocks, one after another.
+fn search_parts<M: Machine>(
+    alloc: Global,
+    machine: &M,
+    targets: &[i32],
+    counts: &[u32],
+    width: u32,
+    share: u32,
+) -> Result<Vec<Found>, NoMemory>
+    requires none_empty { All (λ n. 0 < n) counts.now }
+    requires few_blocks { sum counts.now < 65536 }
+    requires whole { length targets.now ≡ sum counts.now * (M.rules machine.now).decoder.samples }
+    requires small { length targets.now ≤ 262144 }
+    requires range { AreSamples targets.now }
+    requires some { 0 < width }
+    requires few { width ≤ 64 }
+    requires filed { IsFiled (M.rules machine.now) }
+    requires room { (M.rules machine.now).decoder.heads * (M.rules machine.now).floor_len < 2 ^ 31 }
+    ensures found { IfOk result (λ founds. AreFound (M.rules machine.now) width share targets.now 0 counts.now founds.items) }
+    ensures near_beam { IfOk result (λ founds. sum_by (λ f. f.choice.sum) founds.items ≤ beam_sums (M.rules machine.now) width targets.now 0 counts.now) }
+{
+    let mut founds = match Vec::with_capacity(alloc, counts.len()) {
+        Ok(founds) => founds,
+        Err(_) => return Err(NoMemory),
+    };
+    let mut first = 0;
+    for count in counts {
+        let found = search_part(alloc, machine, targets, first, *count, width, share)?;
+        match founds.push(found) {
+            Ok(()) => {}
+            Err(_) => return Err(NoMemory),
+        }
+        first += *count;
+    }
+    Ok(founds)
+}
+
+/// Searches the segments of a fitted sound, one after another. Each may list as many cells as the budget gives when it is shared out among them.
+pub(crate) fn search_segments<C: Encode>(
+    alloc: Global,
+    codec: &C,
+    fitted: &Fitted,
+    width: u32,
+    budget: u32,
+) -> Result<Vec<Found>, NoMemory>
+    requires fit { IsFit (codec_of (C.rules codec.now) (C.bytes codec.now)) fitted.now }
+    requires some { 0 < width }
+    requires few { width ≤ 64 }
+    ensures chosen { IfOk result (λ founds. IsChosen (codec_of (C.rules codec.now) (C.bytes codec.now)) (record { width = width; budget = budget }) fitted.now founds.items) }
+    ensures near_beam { IfOk result (λ founds. sum_by (λ f. f.choice.sum) founds.items
+        ≤ beam_sums (C.rules codec.now) width fitted.now.targets 0 (segments_in (codec_of (C.rules codec.now) (C.bytes codec.now)) fitted.now)) }
+    ensures known { IfOk result (λ founds. IsKnown (codec_of (C.rules codec.now) (C.bytes codec.now)) fitted.now founds.items) }
+{
+    certified_bounds_hold();
+    let counts = segments(alloc, codec.kind(), fitted.blocks, fitted.loop_block)?;
+    let counts = counts.as_slice();
+    let share = budget / counts.len() as u32;
+    match search_parts(
+        alloc,
+        codec,
+        fitted.targets.as_slice(),
+        counts,
+        width,
+        share,
+    ) {
+        Ok(founds) => Ok(founds),
+        Err(e) => Err(e),
+    }
+}

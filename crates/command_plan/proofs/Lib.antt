@@ -7,3 +7,4 @@ pub mod Storing
 pub mod Promised
 pub mod Tested
 pub mod Kept
+pub mod ReadOn

@@ -3,7 +3,7 @@ use Rattle.std.proofs.Common.{◌≡◌, ℕ, ◌+◌, ◌≤◌, List, [], ◌+
 use Rattle.std.proofs.lemmas.Bool.{cases_Bool}
 use Rattle.host_files.specs.Outside.{World, Files, grown}
 use Rattle.command_plan.specs.declared.status.Status.{Status}
-use Rattle.command_plan.specs.declared.status.Status.TheVariants.{Done, Words, Manifest, Input, Unfit, Full, Device, Memory}
+use Rattle.command_plan.specs.declared.status.Status.TheVariants.{Done, Words, Manifest, Input, Unfit, Full, Refused, Device, Memory}
 use Rattle.command_plan.specs.declared.status.HostCall.{HostCall}
 use Rattle.command_plan.specs.declared.status.HostCall.TheVariants.{Fetch, Store, Say}
 use Rattle.command_plan.specs.Ending.{Ending, Finished, Declined, Broken, Starved, ending_of, is_finished, is_early}
@@ -31,6 +31,7 @@ finished (Manifest fault) h = cc
 finished (Input name fault) h = cc
 finished (Unfit name fault) h = cc
 finished (Full bank total) h = cc
+finished (Refused name fault) h = cc
 finished (Device at) h = cc
 finished Memory h = cc
 

@@ -1,7 +1,7 @@
 -- How a run ends, whatever the reason of a refusal. What is promised of a status goes by these four cases.
 use Rattle.std.specs.Prelude.{ℕ, Bool, true, false, not}
 use Rattle.command_plan.specs.declared.status.Status.{Status}
-use Rattle.command_plan.specs.declared.status.Status.TheVariants.{Done, Words, Manifest, Input, Unfit, Full, Device, Memory}
+use Rattle.command_plan.specs.declared.status.Status.TheVariants.{Done, Words, Manifest, Input, Unfit, Full, Refused, Device, Memory}
 use Rattle.command_plan.specs.declared.status.HostCall.{HostCall}
 use Rattle.command_plan.specs.declared.status.HostCall.TheVariants.{Fetch, Store, Say}
 
@@ -20,6 +20,7 @@ ending_of (Manifest fault) = Declined
 ending_of (Input name fault) = Declined
 ending_of (Unfit name fault) = Declined
 ending_of (Full bank total) = Declined
+ending_of (Refused name fault) = Declined
 ending_of (Device at) = Broken at
 ending_of Memory = Starved
 
@@ -31,6 +32,7 @@ code_of (Manifest fault) = 3
 code_of (Input name fault) = 4
 code_of (Unfit name fault) = 5
 code_of (Full bank total) = 6
+code_of (Refused name fault) = 7
 code_of (Device at) = 8
 code_of Memory = 9
 

@@ -23,15 +23,13 @@ use Rattle.block_flags.specs.declared.split.SplitFault.TheVariants as split
 use Rattle.manifest_reader.specs.declared.fault.ManifestFault.{ManifestFault}
 use Rattle.manifest_reader.specs.declared.fault.ManifestFault.TheVariants as manifest
 use Rattle.command_plan.specs.declared.input_fault.InputFault.{InputFault}
-use Rattle.command_plan.specs.declared.input_fault.InputFault.TheVariants.{Wave, Loop, Image, Vag, Ima, Track, FileLong, BlockLength, NoEntry, TooMuch}
+use Rattle.command_plan.specs.declared.input_fault.InputFault.TheVariants.{Wave, Loop, Image, Vag, Ima, Track, Shape, FileLong, BlockLength, NoEntry, TooMuch}
+use Rattle.command_plan.specs.CertWords.{part_word}
+use Rattle.command_plan.specs.Rows.{row, text_row}
 
--- a kind and its numbers
-unfoldable pub row : List ℕ → List ℕ → List LinePart
-row kind numbers = Word kind ∷ map (λ n. Number (pos n)) numbers
-
--- a kind and the text that it is about
-unfoldable pub text_row : List ℕ → List ℕ → List LinePart
-text_row kind text = Word kind ∷ Word text ∷ []
+-- what a stored bank differs in, what is stored, and what is asked for
+unfoldable pub shape_row : List ℕ → ℕ → ℕ → List LinePart
+shape_row what have need = text_row (codes "Shape") what ++ map (λ n. Number (pos n)) (have ∷ need ∷ [])
 
 -- a number out of range, and its key
 unfoldable pub range_row : List ℕ → ℤ → List LinePart
@@ -151,6 +149,7 @@ input_parts (Image fault) = image_parts fault
 input_parts (Vag fault) = vag_parts fault
 input_parts (Ima fault) = ima_parts fault
 input_parts (Track fault) = track_parts fault
+input_parts (Shape what have need) = shape_row (part_word what) have need
 input_parts (FileLong most) = row (codes "FileLong") (most ∷ [])
 input_parts (BlockLength len) = row (codes "BlockLength") (len ∷ [])
 input_parts (NoEntry entry count) = row (codes "NoEntry") (entry ∷ count ∷ [])

@@ -1,7 +1,10 @@
 pub mod Ending
+pub mod Rows
+pub mod CertWords
 pub mod FaultWords
 pub mod Lines
 pub mod Plan
 pub mod Reading
+pub mod Read
 pub mod Steps
 pub mod Promise

@@ -4,11 +4,13 @@ use Rattle.report_text.specs.declared.part.LinePart.{LinePart}
 use Rattle.report_text.specs.declared.part.LinePart.TheVariants.{Word}
 use Rattle.report_text.specs.Fault.{fault_text}
 use Rattle.command_plan.specs.declared.status.Status.{Status}
-use Rattle.command_plan.specs.declared.status.Status.TheVariants.{Done, Words, Manifest, Input, Unfit, Full, Device, Memory}
+use Rattle.command_plan.specs.declared.status.Status.TheVariants.{Done, Words, Manifest, Input, Unfit, Full, Refused, Device, Memory}
 use Rattle.command_plan.specs.declared.status.HostCall.{HostCall}
 use Rattle.command_plan.specs.declared.status.HostCall.TheVariants.{Fetch, Store, Say}
 use Rattle.command_plan.specs.Ending.{code_of}
-use Rattle.command_plan.specs.FaultWords.{row, text_row, manifest_parts, input_parts, fit_parts}
+use Rattle.command_plan.specs.Rows.{row, text_row}
+use Rattle.command_plan.specs.CertWords.{refusal_parts}
+use Rattle.command_plan.specs.FaultWords.{manifest_parts, input_parts, fit_parts}
 
 -- a call of the host, and the file that it is about
 abbrev pub call_parts : HostCall → List LinePart
@@ -24,6 +26,7 @@ parts_of (Manifest fault) = Word (codes "manifest") ∷ manifest_parts fault
 parts_of (Input name fault) = Word name ∷ input_parts fault
 parts_of (Unfit name fault) = Word name ∷ fit_parts fault
 parts_of (Full bank total) = Word bank ∷ row (codes "ImageFull") (total ∷ [])
+parts_of (Refused name fault) = Word name ∷ refusal_parts fault
 parts_of (Device at) = call_parts at
 parts_of Memory = []
 

@@ -1,8 +1,10 @@
 ghost use Rattle.std.specs.Prelude.{◌≡◌, ◌++◌, IfOk};
-ghost use Rattle.command_plan.specs.FaultWords.{wave_parts, loop_parts, fit_parts, image_parts, vag_parts, split_parts, head_parts, bad_head_parts, ima_parts, track_parts, input_parts, range_row, manifest_parts};
+ghost use Rattle.command_plan.specs.FaultWords.{wave_parts, loop_parts, fit_parts, image_parts, vag_parts, split_parts, head_parts, bad_head_parts, ima_parts, track_parts, input_parts, range_row, shape_row, manifest_parts};
+ghost use Rattle.command_plan.specs.CertWords.{part_word};
 
-use crate::input_fault::InputFault;
-use crate::row::{with_number, with_row, with_text};
+use crate::cert_words::part_word;
+use crate::input_fault::{InputFault, ShapePart};
+use crate::row::{with_number, with_numbers, with_row, with_text};
 use adpcm_nums::NoMemory;
 use block_flags::SplitFault;
 use ima_machine::ImaFault;
@@ -225,6 +227,21 @@ fn with_track(
     }
 }
 
+/// The words of what a stored bank differs in.
+#[tactic(auto, unfolding(crate::specs::FaultWords::shape_row))]
+fn with_shape(
+    alloc: Global,
+    parts: Vec<LinePart>,
+    what: ShapePart,
+    have: u64,
+    need: u64,
+) -> Result<Vec<LinePart>, NoMemory>
+    ensures { IfOk result (λ all. all.items ≡ parts.items ++ shape_row (part_word what) have need) }
+{
+    let parts = with_text(alloc, parts, "Shape", part_word(what))?;
+    with_numbers(parts, &[have, need])
+}
+
 /// The words of a fault in a fetched file.
 pub(crate) fn with_input(
     alloc: Global,
@@ -240,6 +257,7 @@ pub(crate) fn with_input(
         InputFault::Vag { fault } => with_vag(alloc, parts, fault),
         InputFault::Ima { fault } => with_ima(alloc, parts, fault),
         InputFault::Track { fault } => with_track(alloc, parts, fault),
+        InputFault::Shape { what, have, need } => with_shape(alloc, parts, *what, *have, *need),
         InputFault::FileLong { most } => with_row(alloc, parts, "FileLong", &[*most]),
         InputFault::BlockLength { len } => with_row(alloc, parts, "BlockLength", &[*len]),
         InputFault::NoEntry { entry, count } => {

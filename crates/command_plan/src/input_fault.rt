@@ -6,6 +6,35 @@ use thiserror::Error;
 use vag_writer::VagFault;
 use wave_form::WaveFault;
 
+/// In what a stored bank may differ from the one that is asked for, in the order in which it is tested.
+#[derive(Clone, Copy, Debug, PartialEq, Eq, Error)]
+pub enum ShapePart {
+    /// The number of entries of an image.
+    #[error("Entries")]
+    Entries,
+    /// The bytes in a block of IMA ADPCM.
+    #[error("Align")]
+    Align,
+    /// The number of blocks.
+    #[error("Blocks")]
+    Blocks,
+    /// The first block of the loop.
+    #[error("LoopBlock")]
+    LoopBlock,
+    /// A block that must forget what was played before it and has a head that does not.
+    #[error("Head")]
+    Head,
+    /// The number of frames.
+    #[error("Frames")]
+    Frames,
+    /// The first frame of the loop.
+    #[error("LoopStart")]
+    LoopStart,
+    /// The last frame of the loop.
+    #[error("LoopEnd")]
+    LoopEnd,
+}
+
 /// What is wrong with a fetched file.
 #[derive(Clone, Copy, Debug, PartialEq, Eq, Error)]
 pub enum InputFault {
@@ -44,6 +73,16 @@ pub enum InputFault {
     Track {
         /// The first fault of the track.
         fault: TrackFault,
+    },
+    /// The stored bank is not the one that the manifest and its sources ask for.
+    #[error("Shape {what} {have} {need}")]
+    Shape {
+        /// What differs.
+        what: ShapePart,
+        /// What is stored; for `Head` the block that must forget what was played before it and does not.
+        have: u64,
+        /// What is asked for; 0 for `Head`. A loop that is not there counts as 4294967295.
+        need: u64,
     },
     /// It has more bytes than are read of such a file.
     #[error("more than {most} bytes")]

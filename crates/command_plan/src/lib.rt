@@ -33,10 +33,12 @@
 //! comes only where a fault rose, and never `Words` (`Keeps` of `specs/Steps`; `IsPlain` for functions that see no host).
 #![tactic(auto)]
 
+mod cert_words;
 mod closing;
 mod fault_words;
 mod fetch;
 mod input_fault;
+mod refusal;
 mod row;
 mod status;
 mod status_line;
@@ -45,7 +47,8 @@ mod write;
 
 pub use closing::finish;
 pub use fetch::{fetch_front, fetch_whole};
-pub use input_fault::InputFault;
+pub use input_fault::{InputFault, ShapePart};
+pub use refusal::CertRefusal;
 pub use status::{HostCall, Status};
-pub use stops::{full, input_refused, unfit};
+pub use stops::{cert_refused, full, input_refused, unfit};
 pub use write::write_out;

@@ -1,6 +1,6 @@
 ghost use Rattle.std.specs.Prelude.{◌≡◌, ◌∷◌, [], ◌++◌, pos, map, IfOk};
 ghost use Rattle.report_text.specs.declared.part.LinePart.TheVariants.{Word, Number};
-ghost use Rattle.command_plan.specs.FaultWords.{row, text_row};
+ghost use Rattle.command_plan.specs.Rows.{row, text_row};
 
 use adpcm_nums::NoMemory;
 use report_text::LinePart;
@@ -35,7 +35,10 @@ pub(crate) fn with_number(parts: Vec<LinePart>, number: i64) -> Result<Vec<LineP
 }
 
 /// Some numbers more.
-fn with_numbers(mut parts: Vec<LinePart>, numbers: &[u64]) -> Result<Vec<LinePart>, NoMemory>
+pub(crate) fn with_numbers(
+    mut parts: Vec<LinePart>,
+    numbers: &[u64],
+) -> Result<Vec<LinePart>, NoMemory>
     ensures { IfOk result (λ all. all.items ≡ parts.items ++ map (λ n. Number (pos n)) numbers.now) }
 {
     for number in numbers {
@@ -47,7 +50,7 @@ fn with_numbers(mut parts: Vec<LinePart>, numbers: &[u64]) -> Result<Vec<LinePar
 }
 
 /// A kind of fault and its numbers more.
-#[tactic(auto, unfolding(crate::specs::FaultWords::row))]
+#[tactic(auto, unfolding(crate::specs::Rows::row))]
 pub(crate) fn with_row(
     alloc: Global,
     parts: Vec<LinePart>,
@@ -61,7 +64,7 @@ pub(crate) fn with_row(
 }
 
 /// A kind of fault more, and the text that it is about.
-#[tactic(auto, unfolding(crate::specs::FaultWords::text_row))]
+#[tactic(auto, unfolding(crate::specs::Rows::text_row))]
 pub(crate) fn with_text(
     alloc: Global,
     parts: Vec<LinePart>,

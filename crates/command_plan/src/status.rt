@@ -2,6 +2,7 @@ ghost use Rattle.std.specs.Prelude.{◌≡◌};
 ghost use Rattle.command_plan.specs.Ending.{code_of};
 
 use crate::input_fault::InputFault;
+use crate::refusal::CertRefusal;
 use adpcm_nums::Text;
 use loop_fit::FitFault;
 use manifest_reader::ManifestFault;
@@ -38,6 +39,13 @@ pub enum Status {
         bank: Text,
         /// The end of the bank in sound memory, in bytes.
         total: u64,
+    },
+    /// A stored certificate does not show what it records.
+    Refused {
+        /// The sample's name.
+        name: Text,
+        /// The first reason.
+        fault: CertRefusal,
     },
     /// A call of the host failed.
     Device {
@@ -77,6 +85,7 @@ impl Status {
             Status::Input { .. } => 4,
             Status::Unfit { .. } => 5,
             Status::Full { .. } => 6,
+            Status::Refused { .. } => 7,
             Status::Device { .. } => 8,
             Status::Memory => 9,
         }

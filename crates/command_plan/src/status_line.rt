@@ -2,6 +2,7 @@ ghost use Rattle.std.specs.Prelude.{◌≡◌, ◌++◌, IfOk};
 ghost use Rattle.command_plan.specs.Ending.{code_of};
 ghost use Rattle.command_plan.specs.Lines.{call_parts, parts_of, fault_line};
 
+use crate::cert_words::with_refusal;
 use crate::fault_words::{with_fit, with_input, with_manifest};
 use crate::row::{with_row, with_text, with_word};
 use crate::status::{HostCall, Status};
@@ -43,6 +44,10 @@ fn parts_of(alloc: Global, status: &Status) -> Result<Vec<LinePart>, NoMemory>
         Status::Full { bank, total } => {
             let parts = with_word(alloc, parts, bank.as_str())?;
             with_row(alloc, parts, "ImageFull", &[*total])
+        }
+        Status::Refused { name, fault } => {
+            let parts = with_word(alloc, parts, name.as_str())?;
+            with_refusal(alloc, parts, fault)
         }
         Status::Device { at } => with_call(alloc, parts, at),
     }

@@ -1,6 +1,7 @@
 ghost use Rattle.adpcm_nums.specs.Outcome.{Tells};
 
 use crate::input_fault::InputFault;
+use crate::refusal::CertRefusal;
 use crate::status::{HostCall, Status};
 use adpcm_nums::{NoMemory, Text};
 use loop_fit::FitFault;
@@ -56,6 +57,16 @@ pub fn full(alloc: Global, bank: &str, total: u64) -> Status
 {
     match Text::copy_of(alloc, bank) {
         Ok(bank) => Status::Full { bank, total },
+        Err(NoMemory) => Status::Memory,
+    }
+}
+
+/// A stored certificate is refused.
+pub fn cert_refused(alloc: Global, name: &str, fault: CertRefusal) -> Status
+    ensures { Tells Status.Memory result (Status.Refused name.now fault) }
+{
+    match Text::copy_of(alloc, name) {
+        Ok(name) => Status::Refused { name, fault },
         Err(NoMemory) => Status::Memory,
     }
 }

@@ -1,0 +1,7 @@
+pub mod Cells
+pub mod Proven
+pub mod Tally
+pub mod Failure
+pub mod Shape
+pub mod Stored
+pub mod Errors

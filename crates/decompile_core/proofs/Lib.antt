@@ -1,0 +1,13 @@
+pub mod PlayingSteps
+pub mod Ranges
+pub mod RecoverSteps
+pub mod ImaSteps
+pub mod EntrySteps
+pub mod Ways
+pub mod Settling
+pub mod Sounding
+pub mod FileWays
+pub mod FileSounds
+pub mod GivingBack
+pub mod FileEntries
+pub mod Keeping

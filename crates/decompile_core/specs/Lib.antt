@@ -1,0 +1,5 @@
+pub mod Limit
+pub mod Playings
+pub mod Recovered
+pub mod Decompiled
+pub mod Heard

@@ -15,13 +15,15 @@ use Rattle.machine_core.specs.declared.state.Kind.TheVariants.{Brr, Spu, Ima}
 use Rattle.loop_fit.specs.declared.rule.FitRule.{FitRule}
 use Rattle.manifest_reader.specs.declared.manifest.SampleEntry.{SampleEntry}
 use Rattle.manifest_reader.specs.Meaning.{Content}
-use Rattle.manifest_reader.specs.Stored.{joined, image_names, stored_endings, stored_names}
+use Rattle.manifest_reader.specs.Stored.{cert_name_of, joined, image_names, stored_endings, stored_names}
 use Rattle.snes_directory.specs.Layout.{is_past_end}
-use Rattle.bank_compile.specs.Kinds.{codec_for}
+use Rattle.bank_kinds.specs.Kinds.{codec_for}
 use Rattle.bank_compile.specs.declared.sample.SampleOut.{SampleOut}
+use Rattle.bank_compile.specs.Sample.{Effort}
 use Rattle.bank_compile.specs.Bank.{bank_of, image_of, image_files, sample_files}
-use Rattle.bank_compile.specs.Replay.{IsHeld, SampleReplays}
-use Rattle.bank_compile.specs.Bound.{IsBound}
+use Rattle.bank_kinds.specs.Replay.{IsHeld, SampleReplays}
+use Rattle.bank_kinds.specs.Bound.{IsBound}
+use Rattle.bank_kinds.specs.Certified.{IsCertified}
 use Rattle.report_text.specs.declared.report.SampleReport.{SampleReport}
 use Rattle.command_plan.specs.declared.status.Status.{Status}
 use Rattle.command_plan.specs.declared.status.Status.TheVariants.{Full, Memory}
@@ -34,7 +36,7 @@ use Rattle.command_plan.proofs.Tested.{tested_after}
 use Rattle.bank_tool.specs.declared.source.Source.{Source}
 use Rattle.bank_tool.specs.Source.{rule_of}
 use Rattle.bank_tool.specs.Stored.{IsStored}
-use Rattle.bank_tool.specs.Compile.{each_of, source_in, source_reading, sources_in, sources_reading, bank_end, with_room, bank_names, IsMadeOf}
+use Rattle.bank_tool.specs.Compile.{each_of, source_in, source_reading, sources_in, sources_reading, bank_end, with_room, bank_names, effort_of, IsMadeOf}
 use Rattle.bank_tool.proofs.SourceSteps.{test-declines}
 
 room-declines : (kind : Kind) (bank : List ℕ) (base : ℕ) (sources : List Source) → Declines (with_room kind bank base sources)
@@ -90,15 +92,15 @@ sample-names Spu block bank out = refl
 sample-names Ima block bank out = refl
 
 -- and those of all samples have the names of the sources that they were made of
-made-names : (kind : Kind) (block : ℕ) (bank : List ℕ) (sources : List Source) (outs : List SampleOut) → AllZip (IsMadeOf kind block) sources outs
+made-names : (kind : Kind) (block : ℕ) (effort : Effort) (bank : List ℕ) (sources : List Source) (outs : List SampleOut) → AllZip (IsMadeOf kind block effort) sources outs
     → names_in (flat_map (sample_files kind block bank) outs) ≡ flat_map (λ (s : Source). map (joined bank s.name) (stored_endings kind)) sources
-made-names kind block bank [] [] h = refl
-made-names kind block bank [] (o ∷ outs) h = absurd h
-made-names kind block bank (s ∷ sources) [] h = absurd h
-made-names kind block bank (s ∷ sources) (o ∷ outs) h =
+made-names kind block effort bank [] [] h = refl
+made-names kind block effort bank [] (o ∷ outs) h = absurd h
+made-names kind block effort bank (s ∷ sources) [] h = absurd h
+made-names kind block effort bank (s ∷ sources) (o ∷ outs) h =
     map-append (λ (f : NamedFile). f.name) (sample_files kind block bank o) (flat_map (sample_files kind block bank) outs)
     ∙ ap (λ ns. ns ++ names_in (flat_map (sample_files kind block bank) outs)) (sample-names kind block bank o ∙ ap (λ (x : SampleOut). map (joined bank x.name) (stored_endings kind)) h.0.made)
-    ∙ ap (λ ns. map (joined bank s.name) (stored_endings kind) ++ ns) (made-names kind block bank sources outs h.1)
+    ∙ ap (λ ns. map (joined bank s.name) (stored_endings kind) ++ ns) (made-names kind block effort bank sources outs h.1)
 
 -- where two lists have one name after another alike, so have their files
 named-alike : (f : List ℕ → List (List ℕ)) (sources : List Source) (entries : List SampleEntry) → map (λ (s : Source). s.name) sources ≡ map (λ (e : SampleEntry). e.name) entries
@@ -116,13 +118,13 @@ image-names Brr bank base outs images e =
 image-names Spu bank base outs images e = let same : [] ≡ images = cc in (ap names_in (sym same), subst (λ (fs : List NamedFile). length fs ≤ 1) same (omega arith))
 image-names Ima bank base outs images e = let same : [] ≡ images = cc in (ap names_in (sym same), subst (λ (fs : List NamedFile). length fs ≤ 1) same (omega arith))
 
--- no sample has more than two files
-sample-few : (kind : Kind) (block : ℕ) (bank : List ℕ) (out : SampleOut) → length (sample_files kind block bank out) ≤ 2
+-- no sample has more than three files
+sample-few : (kind : Kind) (block : ℕ) (bank : List ℕ) (out : SampleOut) → length (sample_files kind block bank out) ≤ 3
 sample-few Brr block bank out = omega arith
 sample-few Spu block bank out = omega arith
 sample-few Ima block bank out = omega arith
 
-samples-few : (kind : Kind) (block : ℕ) (bank : List ℕ) (outs : List SampleOut) → length (flat_map (sample_files kind block bank) outs) ≤ 2 * length outs
+samples-few : (kind : Kind) (block : ℕ) (bank : List ℕ) (outs : List SampleOut) → length (flat_map (sample_files kind block bank) outs) ≤ 3 * length outs
 samples-few kind block bank [] = omega arith
 samples-few kind block bank (o ∷ outs) =
     let here = sample-few kind block bank o in
@@ -144,16 +146,16 @@ bank-files m outs writes e =
 
 -- so they have the names of a bank's files
 pub names_stored : (m : Content) (sources : List Source) (outs : List SampleOut) (writes : List NamedFile) → map (λ (s : Source). s.name) sources ≡ map (λ (e : SampleEntry). e.name) m.samples
-    → AllZip (IsMadeOf m.kind m.block) sources outs → AreFiles m outs writes → names_in writes ≡ bank_names m
+    → AllZip (IsMadeOf m.kind m.block (effort_of m)) sources outs → AreFiles m outs writes → names_in writes ≡ bank_names m
 unfolding stored_names
 names_stored m sources outs writes named made files =
     ap names_in files.files_are
     ∙ map-append (λ (f : NamedFile). f.name) files.images (flat_map (sample_files m.kind m.block m.bank) outs)
     ∙ ap (λ ns. ns ++ names_in (flat_map (sample_files m.kind m.block m.bank) outs)) (image-names m.kind m.bank m.base outs files.images files.images_are).0
-    ∙ ap (λ ns. image_names m.kind m.bank ++ ns) (made-names m.kind m.block m.bank sources outs made ∙ named-alike (λ n. map (joined m.bank n) (stored_endings m.kind)) sources m.samples named)
+    ∙ ap (λ ns. image_names m.kind m.bank ++ ns) (made-names m.kind m.block (effort_of m) m.bank sources outs made ∙ named-alike (λ n. map (joined m.bank n) (stored_endings m.kind)) sources m.samples named)
 
 -- and there are few
-pub few_files : (m : Content) (outs : List SampleOut) (writes : List NamedFile) → AreFiles m outs writes → length writes ≤ 1 + 2 * length outs
+pub few_files : (m : Content) (outs : List SampleOut) (writes : List NamedFile) → AreFiles m outs writes → length writes ≤ 1 + 3 * length outs
 few_files m outs writes files =
     let image = (image-names m.kind m.bank m.base outs files.images files.images_are).1 in
     let samples = samples-few m.kind m.block m.bank outs in
@@ -164,11 +166,14 @@ few_files m outs writes files =
 pub files_held : (before after : Files) (writes : List NamedFile) → IsDistinct bytes_eq (names_in writes) → all_stored (Some before) writes ≡ Some after → All (IsHeld (content_of after)) writes
 files_held before after writes once set = λ k d within. kept_at before after writes k (get_or writes k d) once (slice_get-get_or writes k d within) set
 
--- a bound that holds, and stored files that replay a source, are what is promised of it
+-- stored files that replay a source, and a certificate of a bound that holds, are what is promised of it
 pub stored_sample : (kind : Kind) (block : ℕ) (content : List ℕ → List ℕ) (bank : List ℕ) (j : ℕ) (source : Source) (report : SampleReport)
-    → SampleReplays kind block content bank source.name j source.rate source.fitted report.error → IsBound (codec_for kind block) source.fitted report.bound → IsStored kind block content bank j source report
-stored_sample kind block content bank j source report replays bound = record {
+    → SampleReplays kind block content bank source.name j source.rate source.fitted report.error
+    → IsCertified (codec_for kind block) (content (cert_name_of bank source.name)) source.fitted report.bound report.levels
+    → IsBound (codec_for kind block) source.fitted report.bound → IsStored kind block content bank j source report
+stored_sample kind block content bank j source report replays certified bound = record {
   replays = replays;
+  certified = certified;
   bound = bound;
   gap = subst (λ (n : ℕ). report.bound ≤ n) (sym replays.replays.error_is) (bound replays.entry.list replays.replays.legal);
   optimal = λ e. subst (IsBound (codec_for kind block) source.fitted) (sym e) bound;

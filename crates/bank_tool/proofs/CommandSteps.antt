@@ -11,9 +11,11 @@ use Rattle.command_plan.specs.Steps.{Told}
 use Rattle.command_plan.specs.Promise.{Promises}
 use Rattle.command_plan.proofs.Promised.{refused_at_once}
 use Rattle.bank_tool.specs.declared.words.Command.{Command}
-use Rattle.bank_tool.specs.declared.words.Command.TheVariants.{Block, Compile, Play}
+use Rattle.bank_tool.specs.declared.words.Command.TheVariants.{Block, Compile, Check, Decompile, Play}
 use Rattle.machine_core.specs.declared.state.Kind.{Kind}
 use Rattle.bank_tool.specs.Block.{block_course, targets_in, IsBlock, AnswersBlock}
+use Rattle.bank_tool.specs.Decompile.{decompile_course, entries_in, IsDecompiled, AnswersDecompile}
+use Rattle.bank_tool.proofs.DecompiledSteps.{answers_decompile, Sounds}
 use Rattle.bank_tool.specs.Play.{play_course, said_in, IsPlayed, AnswersPlay}
 use Rattle.bank_tool.proofs.PlaySteps.{answers_play}
 use Rattle.bank_tool.proofs.BlockSteps.{answers_block}
@@ -21,6 +23,9 @@ use Rattle.bank_tool.specs.Words.{is_word, command_in, command_of}
 use Rattle.bank_tool.specs.Compile.{compile_course, compile_choice}
 use Rattle.bank_tool.specs.Compiled.{AnswersCompile}
 use Rattle.bank_tool.proofs.CompiledSteps.{answers_compile}
+use Rattle.bank_tool.specs.Check.{check_course}
+use Rattle.bank_tool.specs.Checked.{check_choice, AnswersCheck}
+use Rattle.bank_tool.proofs.CheckedSteps.{answers_check}
 use Rattle.bank_tool.specs.Commands.{course_of, choice_of}
 
 -- words that are no command, and the line that says so
@@ -45,6 +50,11 @@ pub play_answers : (o : Option Command) (files : Files) (kind : Kind) (file : Li
 play_answers o files kind file entry count a b r e h =
     answers_play files kind file entry count a b r (subst (λ (x : Option Command). Promises (course_of x files) (choice_of x files) a b r) e h)
 
+-- words that are `decompile`
+pub decompile_answers : (o : Option Command) (files : Files) (kind : Kind) (file output : List ℕ) (a b : World) (r : Status) → a.files ≡ Some files → Sounds → o ≡ Some (Decompile kind file output) → Promises (course_of o files) (choice_of o files) a b r → AnswersDecompile files kind file output a b r
+decompile_answers o files kind file output a b r told sounds e h =
+    answers_decompile files kind file output a b r told sounds (subst (λ (x : Option Command). Promises (course_of x files) (choice_of x files) a b r) e h)
+
 -- words that are `compile`
 pub compile_answers : (o : Option Command) (files : Files) (manifest : List ℕ) (a b : World) (r : Status) → a.files ≡ Some files → o ≡ Some (Compile manifest) → Promises (course_of o files) (choice_of o files) a b r → AnswersCompile files manifest a b r
 compile_answers o files manifest a b r told e h =
@@ -63,8 +73,25 @@ play_obeys command files kind x file entry count a b r is f h =
     subst (λ (m : Command). Promises (course_of (Some m) files) (choice_of (Some m) files) a b r) (sym is)
     (subst (λ (n : List ℕ). Promises (play_course files kind n entry count) (IsPlayed (said_in files kind n entry count)) a b r) f h)
 
+-- a command that is `decompile`
+pub decompile_obeys : (command : Command) (files : Files) (kind : Kind) (x y file output : List ℕ) (a b : World) (r : Status) → command ≡ Decompile kind x y → file ≡ x → output ≡ y → Promises (decompile_course files kind file output) (IsDecompiled (entries_in files kind file) output) a b r → Promises (course_of (Some command) files) (choice_of (Some command) files) a b r
+decompile_obeys command files kind x y file output a b r is f o h =
+    subst (λ (m : Command). Promises (course_of (Some m) files) (choice_of (Some m) files) a b r) (sym is)
+    (subst (λ (n : List ℕ). Promises (decompile_course files kind x n) (IsDecompiled (entries_in files kind x) n) a b r) o
+    (subst (λ (n : List ℕ). Promises (decompile_course files kind n output) (IsDecompiled (entries_in files kind n) output) a b r) f h))
+
 -- a command that is `compile`
 pub compile_obeys : (command : Command) (files : Files) (x manifest : List ℕ) (a b : World) (r : Status) → command ≡ Compile x → manifest ≡ x → Promises (compile_course files manifest) (compile_choice files manifest) a b r → Promises (course_of (Some command) files) (choice_of (Some command) files) a b r
 compile_obeys command files x manifest a b r is m h =
     subst (λ (k : Command). Promises (course_of (Some k) files) (choice_of (Some k) files) a b r) (sym is)
     (subst (λ (n : List ℕ). Promises (compile_course files n) (compile_choice files n) a b r) m h)
+
+-- words that are `check`
+pub check_answers : (o : Option Command) (files : Files) (manifest : List ℕ) (a b : World) (r : Status) → o ≡ Some (Check manifest) → Promises (course_of o files) (choice_of o files) a b r → AnswersCheck files manifest a b r
+check_answers o files manifest a b r e h = answers_check files manifest a b r (subst (λ (x : Option Command). Promises (course_of x files) (choice_of x files) a b r) e h)
+
+-- a command that is `check`
+pub check_obeys : (command : Command) (files : Files) (x manifest : List ℕ) (a b : World) (r : Status) → command ≡ Check x → manifest ≡ x → Promises (check_course files manifest) (check_choice files manifest) a b r → Promises (course_of (Some command) files) (choice_of (Some command) files) a b r
+check_obeys command files x manifest a b r is m h =
+    subst (λ (k : Command). Promises (course_of (Some k) files) (choice_of (Some k) files) a b r) (sym is)
+    (subst (λ (n : List ℕ). Promises (check_course files n) (check_choice files n) a b r) m h)

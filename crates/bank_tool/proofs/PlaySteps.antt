@@ -21,7 +21,7 @@ use Rattle.ima_machine.specs.Ima.{samples_in}
 use Rattle.ima_wave.specs.declared.file.ImaFile.{ImaFile}
 use Rattle.ima_wave.specs.Reading.{ima_of}
 use Rattle.ima_wave.specs.Files.{IsImaFile}
-use Rattle.bank_compile.specs.Replay.{sound_of}
+use Rattle.bank_kinds.specs.Replay.{sound_of}
 use Rattle.vag_writer.specs.declared.vag.Vag.{Vag}
 use Rattle.vag_writer.specs.Reading.{vag_of}
 use Rattle.snes_directory.specs.declared.image.Image.{Image}
@@ -314,7 +314,7 @@ unwritten_by (Broken at) p a b r none f = none_left p f.place at a.files b.files
 unwritten_by Starved p a b r none f = none_partly p.writes a.files b.files none f.files
 
 -- a plan that stores nothing leaves the files as they were, however it ends
-unwritten_files : (p : Plan) (a b : World) (r : Status) → p.writes ≡ [] → Follows p a b r → b.files ≡ a.files
+pub unwritten_files : (p : Plan) (a b : World) (r : Status) → p.writes ≡ [] → Follows p a b r → b.files ≡ a.files
 unwritten_files p a b r none f = unwritten_by (ending_of r) p a b r none f
 
 -- `play` stores nothing, whether or not its outputs were chosen

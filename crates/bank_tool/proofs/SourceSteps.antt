@@ -18,7 +18,7 @@ use Rattle.manifest_reader.specs.declared.manifest.SampleEntry.{SampleEntry}
 use Rattle.manifest_reader.specs.Meaning.{manifest_of}
 use Rattle.manifest_reader.specs.Ranges.{IsWithin}
 use Rattle.ima_machine.specs.Ima.{is_align}
-use Rattle.bank_compile.specs.Kinds.{codec_for}
+use Rattle.bank_kinds.specs.Kinds.{codec_for}
 use Rattle.wave_form.specs.declared.wave.Wave.{Wave}
 use Rattle.wave_form.specs.Reading.{read_of}
 use Rattle.smpl_loops.specs.Loops.{first_loop_of}

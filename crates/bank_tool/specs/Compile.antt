@@ -12,9 +12,9 @@ use Rattle.manifest_reader.specs.declared.manifest.SampleEntry.{SampleEntry}
 use Rattle.manifest_reader.specs.Meaning.{Content}
 use Rattle.manifest_reader.specs.Stored.{stored_names}
 use Rattle.snes_directory.specs.Layout.{end_address, is_past_end}
-use Rattle.bank_compile.specs.Kinds.{codec_for}
+use Rattle.bank_kinds.specs.Kinds.{codec_for}
 use Rattle.bank_compile.specs.declared.sample.SampleOut.{SampleOut}
-use Rattle.bank_compile.specs.Sample.{IsCompiled}
+use Rattle.bank_compile.specs.Sample.{Effort, IsCompiled}
 use Rattle.bank_compile.specs.Bank.{bank_of}
 use Rattle.bank_compile.specs.Told.{report_text}
 use Rattle.command_plan.specs.declared.status.Status.{Status}
@@ -82,9 +82,13 @@ course_by files (Err s) = nothing_read
 abbrev pub compile_course : Files → List ℕ → Reading
 compile_course files manifest = then_read (tested_reading manifest (meaning_in files manifest)) (course_by files (meaning_in files manifest))
 
+-- how samples are searched, as the manifest says
+abbrev pub effort_of : Content → Effort
+effort_of m = record { width = m.beam; budget = m.budget }
+
 -- a source with what was made of it
-abbrev pub IsMadeOf : Kind → ℕ → Source → SampleOut → Type 0
-IsMadeOf kind block source out = IsCompiled (codec_for kind block) source.name source.rate source.fitted out
+abbrev pub IsMadeOf : Kind → ℕ → Effort → Source → SampleOut → Type 0
+IsMadeOf kind block effort source out = IsCompiled (codec_for kind block) effort source.name source.rate source.fitted out
 
 -- under their names the files hold what the report says of each source
 abbrev pub AllStored : Kind → ℕ → List ℕ → List Source → List SampleOut → Files → Type 0
@@ -95,7 +99,7 @@ AllStored kind block bank sources outs files = (j : ℕ) (source : Source) (out 
 pub record IsBank (m : Content) (sources : List Source) (writes : List NamedFile) (line : List ℕ) : Type 0 where
   -- what was made of each source
   pub outs : List SampleOut
-  pub made : AllZip (IsMadeOf m.kind m.block) sources outs
+  pub made : AllZip (IsMadeOf m.kind m.block (effort_of m)) sources outs
   pub files : bank_of m.kind m.block m.bank m.base outs ≡ Ok writes
   -- they have the names of a bank's files, of which no two are equal
   pub names : names_in writes ≡ bank_names m

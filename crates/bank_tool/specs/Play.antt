@@ -20,7 +20,7 @@ use Rattle.player_model.specs.ImaTrack.{ImaSound, blocks_of, heard_ima, ima_trac
 use Rattle.ima_machine.specs.Ima.{samples_in}
 use Rattle.ima_wave.specs.declared.file.ImaFile.{ImaFile}
 use Rattle.ima_wave.specs.Reading.{ima_of}
-use Rattle.bank_compile.specs.Replay.{sound_of}
+use Rattle.bank_kinds.specs.Replay.{sound_of}
 use Rattle.vag_writer.specs.declared.vag.Vag.{Vag}
 use Rattle.vag_writer.specs.Reading.{vag_of}
 use Rattle.snes_directory.specs.declared.image.Image.{Image}

@@ -2,8 +2,8 @@
 use Rattle.std.specs.Prelude.{◌≡◌, ◌≤◌, ℕ, length}
 use Rattle.machine_core.specs.declared.state.Kind.{Kind}
 use Rattle.loop_fit.specs.declared.rule.FitRule.{FitRule}
-use Rattle.bank_compile.specs.Kinds.{codec_for}
-use Rattle.bank_compile.specs.Sample.{IsFit}
+use Rattle.bank_kinds.specs.Kinds.{codec_for}
+use Rattle.bank_kinds.specs.Fits.{IsFit}
 use Rattle.bank_tool.specs.declared.source.Source.{Source}
 
 -- a source that can be compiled

@@ -11,7 +11,7 @@ use Rattle.smpl_loops.specs.Loops.{first_loop_of}
 use Rattle.loop_fit.specs.declared.rule.FitRule.{FitRule}
 use Rattle.loop_fit.specs.declared.fitted.Fitted.{Fitted}
 use Rattle.loop_fit.specs.Fit.{fit_of}
-use Rattle.bank_compile.specs.Kinds.{codec_for}
+use Rattle.bank_kinds.specs.Kinds.{codec_for}
 use Rattle.command_plan.specs.declared.status.Status.{Status}
 use Rattle.command_plan.specs.declared.status.Status.TheVariants.{Manifest, Input, Unfit}
 use Rattle.command_plan.specs.declared.input_fault.InputFault.TheVariants.{Wave as WaveInput, Loop, FileLong}

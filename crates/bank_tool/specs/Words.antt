@@ -3,8 +3,10 @@ use Rattle.std.specs.Prelude.{ℕ, Bool, false, not, ◌==◌, if◌then◌else�
 use Rattle.std.specs.List.{list_all}
 use Rattle.std.specs.Str.{bytes_eq}
 use Rattle.bank_tool.specs.declared.words.Command.{Command}
-use Rattle.bank_tool.specs.declared.words.Command.TheVariants.{Block, Compile}
+use Rattle.bank_tool.specs.declared.words.Command.TheVariants.{Block, Compile, Check}
+use Rattle.bank_tool.specs.DecompileWords.{decompile_command}
 use Rattle.bank_tool.specs.PlayWords.{play_command}
+use Rattle.bank_tool.specs.MakeWords.{make_command}
 
 -- whether a word may stand in a command: it is not empty and does not begin with `-`, which is 45
 abbrev pub is_word : List ℕ → Bool
@@ -15,9 +17,12 @@ is_word (c ∷ cs) = not (c == 45)
 abbrev pub command_in : List (List ℕ) → Option Command
 command_in [] = None
 command_in (name ∷ []) = None
-command_in (name ∷ manifest ∷ []) = if bytes_eq name (codes "compile") then Some (Compile manifest) else None
+command_in (name ∷ manifest ∷ []) =
+    if bytes_eq name (codes "compile") then Some (Compile manifest) else
+    if bytes_eq name (codes "check") then Some (Check manifest) else
+    if bytes_eq name (codes "make") then make_command manifest else None
 command_in (name ∷ input ∷ output ∷ []) = if bytes_eq name (codes "block") then Some (Block input output) else None
-command_in (name ∷ form ∷ file ∷ entry ∷ []) = None
+command_in (name ∷ form ∷ file ∷ output ∷ []) = if bytes_eq name (codes "decompile") then decompile_command form file output else None
 command_in (name ∷ form ∷ file ∷ entry ∷ count ∷ []) = if bytes_eq name (codes "play") then play_command form file entry count else None
 command_in (name ∷ form ∷ file ∷ entry ∷ count ∷ more ∷ words) = None
 

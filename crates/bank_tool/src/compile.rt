@@ -19,12 +19,12 @@ use std::alloc::Global;
 /// The command `compile MANIFEST`: fetches the manifest and the WAVE files that it names, encodes them, stores the files of
 /// the bank, which `compile_bank` names, and says the report.
 ///
-/// So far it stores no certificates. A refused run stores nothing.
+/// A refused run stores nothing.
 pub fn run_compile<H: Host>(alloc: Global, host: &mut H, manifest: &str) -> Status
     // How the world stands, whatever the host did.
     ensures told { (files : Files) → (H.world host.old).files ≡ Some files →
         Promises (compile_course files manifest.now) (compile_choice files manifest.now) (H.world host.old) (H.world host.new) result }
-    // In the command's own words: at `Done` the bank plays, the told errors are exact, and the told bounds hold; where the
+    // In the command's own words: at `Done` the bank plays, the told errors are exact, and the stored certificates show the told bounds; where the
     // host does not fail, the manifest, the sources and their room decide how it ends.
     ensures answer { (files : Files) → (H.world host.old).files ≡ Some files →
         AnswersCompile files manifest.now (H.world host.old) (H.world host.new) result }

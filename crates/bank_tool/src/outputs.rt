@@ -34,7 +34,7 @@ pub(crate) fn play_lines<F: StoredFormat>(
 
 /// The front of a file that may have 8,388,608 bytes.
 #[tactic(auto, unfolding(crate::specs::Play::whole_in))]
-fn whole_in<'b>(alloc: Global, file: &str, front: &'b [u8]) -> Result<&'b [u8], Status>
+pub(crate) fn whole_in<'b>(alloc: Global, file: &str, front: &'b [u8]) -> Result<&'b [u8], Status>
     ensures exact { Gives Status.Memory (λ bytes. bytes.now) result (whole_in file.now front.now) }
     ensures few { IfOk result (λ bytes. length bytes.now ≤ 8388608) }
 {

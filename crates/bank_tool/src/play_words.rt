@@ -8,7 +8,7 @@ use machine_core::Kind;
 use std::alloc::Global;
 
 /// The format that a word names.
-fn kind_of(word: &str) -> Option<Kind>
+pub(crate) fn kind_of(word: &str) -> Option<Kind>
     ensures { result ≡ kind_of word.now }
 {
     match word {

@@ -8,15 +8,22 @@ ghost use Rattle.command_plan.specs.Promise.{Promises, Finishes};
 ghost use Rattle.bank_tool.specs.Words.{command_of};
 ghost use Rattle.bank_tool.specs.Block.{AnswersBlock};
 ghost use Rattle.bank_tool.specs.Compiled.{AnswersCompile};
+ghost use Rattle.bank_tool.specs.Checked.{AnswersCheck};
+ghost use Rattle.bank_tool.specs.Decompile.{AnswersDecompile};
 ghost use Rattle.bank_tool.specs.Play.{AnswersPlay};
+ghost use Rattle.bank_tool.specs.Make.{AnswersMake};
 ghost use Rattle.bank_tool.specs.Commands.{course_of, choice_of};
 
 use crate::block::run_block;
+use crate::check::run_check;
 use crate::compile::run_compile;
+use crate::decompile::run_decompile;
+use crate::make::run_make;
 use crate::play::run_play;
 use crate::words::{Command, read_words};
 use adpcm_nums::NoMemory;
 use command_plan::{Status, finish};
+use decompile_core::sounds_for_ever;
 use host_files::Host;
 use std::alloc::Global;
 
@@ -37,9 +44,19 @@ pub fn run<H: Host>(alloc: Global, host: &mut H, words: &[String]) -> Status
     // blocks that may be stored has an error below a told bound, and a told gap of 0 means that none has a smaller error.
     ensures compile { (files : Files) (manifest : List ℕ) → (H.world host.old).files ≡ Some files → command_of (map string_bytes words.now) ≡ Some (Command.Compile manifest) →
         AnswersCompile files manifest (H.world host.old) (H.world host.new) result }
+    // What it says of `check`, whoever made the stored files: each stored list is legal, its told error is exact, and no list of
+    // blocks that may be stored has an error below a told bound. The files stay as they were.
+    ensures check { (files : Files) (manifest : List ℕ) → (H.world host.old).files ≡ Some files → command_of (map string_bytes words.now) ≡ Some (Command.Check manifest) →
+        AnswersCheck files manifest (H.world host.old) (H.world host.new) result }
+    // What it says of `decompile`: the stored files hold the entries, which sound as their players.
+    ensures decompile { (files : Files) (kind : Kind) (file output : List ℕ) → (H.world host.old).files ≡ Some files → command_of (map string_bytes words.now) ≡ Some (Command.Decompile kind file output) →
+        AnswersDecompile files kind file output (H.world host.old) (H.world host.new) result }
     // And what it says of `play`.
     ensures play { (files : Files) (kind : Kind) (file : List ℕ) (entry count : ℕ) → (H.world host.old).files ≡ Some files → command_of (map string_bytes words.now) ≡ Some (Command.Play kind file entry count) →
         AnswersPlay files kind file entry count (H.world host.old) (H.world host.new) result }
+    // And what it says of `make`.
+    ensures make { (files : Files) (number : ℕ) → (H.world host.old).files ≡ Some files → command_of (map string_bytes words.now) ≡ Some (Command.Make number) →
+        AnswersMake number (H.world host.old) (H.world host.new) result }
     // Where the host does not fail, the answer is the one of the words' course, unless there was no memory.
     ensures course { (files : Files) → (H.world host.old).files ≡ Some files → is_device result ≡ false →
         Tells Status.Memory result (course_of (command_of (map string_bytes words.now)) files).outcome }
@@ -49,6 +66,7 @@ pub fn run<H: Host>(alloc: Global, host: &mut H, words: &[String]) -> Status
     ensures no_command { command_of (map string_bytes words.now) ≡ None → Tells Status.Memory result Status.Words }
     ensures device { is_device result ≡ true → Rose (H.world host.old).faults (H.world host.new).faults }
 {
+    sounds_for_ever();
     match read_words(alloc, words) {
         Err(NoMemory) => Status::Memory,
         Ok(None) => finish(alloc, host, Status::Words),
@@ -67,11 +85,16 @@ fn obey<H: Host>(alloc: Global, host: &mut H, command: &Command) -> Status
             run_block(alloc, host, input.as_str(), output.as_str())
         }
         Command::Compile { manifest } => run_compile(alloc, host, manifest.as_str()),
+        Command::Check { manifest } => run_check(alloc, host, manifest.as_str()),
+        Command::Decompile { kind, file, output } => {
+            run_decompile(alloc, host, *kind, file.as_str(), output.as_str())
+        }
         Command::Play {
             kind,
             file,
             entry,
             count,
         } => run_play(alloc, host, *kind, file.as_str(), *entry, *count),
+        Command::Make { number } => run_make(alloc, host, *number),
     }
 }

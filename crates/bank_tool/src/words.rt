@@ -2,6 +2,8 @@ ghost use Rattle.std.specs.Prelude.{◌≡◌, IfOk, map, string_bytes};
 ghost use Rattle.std.specs.List.{list_all};
 ghost use Rattle.bank_tool.specs.Words.{is_word, command_in, command_of};
 
+use crate::decompile_words::decompile_command;
+use crate::make_words::make_command;
 use crate::play_words::play_command;
 use adpcm_nums::{NoMemory, Text};
 use machine_core::Kind;
@@ -22,6 +24,20 @@ pub enum Command {
         /// The manifest's file.
         manifest: Text,
     },
+    /// `check MANIFEST`: checks the stored bank of a manifest and its certificates against the sources.
+    Check {
+        /// The manifest's file.
+        manifest: Text,
+    },
+    /// `decompile FORM FILE OUT`: stores the entries of a file as WAVE files.
+    Decompile {
+        /// The format of the file.
+        kind: Kind,
+        /// The file that has the entries.
+        file: Text,
+        /// What the names of the stored files begin with.
+        output: Text,
+    },
     /// `play FORM FILE ENTRY COUNT`: says the first outputs of an entry, one in a line.
     Play {
         /// The format of the file.
@@ -32,6 +48,11 @@ pub enum Command {
         entry: u32,
         /// The number of outputs, of one sample each.
         count: u32,
+    },
+    /// `make NUMBER`: compiles the test sound of a number in the three formats.
+    Make {
+        /// The number.
+        number: u32,
     },
 }
 
@@ -61,6 +82,11 @@ fn known_command(alloc: Global, words: &[String]) -> Result<Option<Command>, NoM
             if name.as_str() == "compile" {
                 let manifest = Text::copy_of(alloc, manifest.as_str())?;
                 Ok(Some(Command::Compile { manifest }))
+            } else if name.as_str() == "check" {
+                let manifest = Text::copy_of(alloc, manifest.as_str())?;
+                Ok(Some(Command::Check { manifest }))
+            } else if name.as_str() == "make" {
+                Ok(make_command(manifest.as_str()))
             } else {
                 Ok(None)
             }
@@ -70,6 +96,13 @@ fn known_command(alloc: Global, words: &[String]) -> Result<Option<Command>, NoM
                 let input = Text::copy_of(alloc, input.as_str())?;
                 let output = Text::copy_of(alloc, output.as_str())?;
                 Ok(Some(Command::Block { input, output }))
+            } else {
+                Ok(None)
+            }
+        }
+        [name, form, file, output] => {
+            if name.as_str() == "decompile" {
+                decompile_command(alloc, form.as_str(), file.as_str(), output.as_str())
             } else {
                 Ok(None)
             }

@@ -1,4 +1,5 @@
-use Rattle.bank_tool.proofs.CommandSteps.{block_obeys, compile_obeys, play_obeys}
+use Rattle.bank_tool.proofs.CommandSteps.{block_obeys, compile_obeys, check_obeys, decompile_obeys, play_obeys}
+use Rattle.bank_tool.proofs.MakeSteps.{make_obeys}
 use Rattle.bank_tool.proofs.top.obey.Goals as goal
 
 pub returns-in-Block-clause-told : goal.returns-in-Block-clause-told
@@ -15,3 +16,17 @@ pub returns-in-Play-clause-told : goal.returns-in-Play-clause-told
 returns-in-Play-clause-told g c = λ files told.
     play_obeys c.args.command.now files c.in-Play.kind c.in-Play.file c.as_str-in-Play.result.now c.in-Play.entry c.in-Play.count
     (g.H.Host.world c.args.host.now) (g.H.Host.world c.run_play.new.host) c.run_play.result c.in-Play.is c.as_str-in-Play.ensures (c.run_play.ensures.told files told)
+
+pub returns-in-Make-clause-told : goal.returns-in-Make-clause-told
+returns-in-Make-clause-told g c = λ files told.
+    make_obeys c.args.command.now files c.in-Make.number (g.H.Host.world c.args.host.now) (g.H.Host.world c.run_make.new.host) c.run_make.result c.in-Make.is c.run_make.ensures.told
+
+pub returns-in-Decompile-clause-told : goal.returns-in-Decompile-clause-told
+returns-in-Decompile-clause-told g c = λ files told.
+    decompile_obeys c.args.command.now files c.in-Decompile.kind c.in-Decompile.file c.in-Decompile.output c.as_str-in-Decompile.result.now c.as_str-in-Decompile-2.result.now
+    (g.H.Host.world c.args.host.now) (g.H.Host.world c.run_decompile.new.host) c.run_decompile.result c.in-Decompile.is c.as_str-in-Decompile.ensures c.as_str-in-Decompile-2.ensures (c.run_decompile.ensures.told files told)
+
+pub returns-in-Check-clause-told : goal.returns-in-Check-clause-told
+returns-in-Check-clause-told g c = λ files told.
+    check_obeys c.args.command.now files c.in-Check.manifest c.as_str-in-Check.result.now
+    (g.H.Host.world c.args.host.now) (g.H.Host.world c.run_check.new.host) c.run_check.result c.in-Check.is c.as_str-in-Check.ensures (c.run_check.ensures.told files told)

@@ -1,6 +1,7 @@
 use Rattle.std.proofs.Common.{sym, ◌∙◌, Some}
 use Rattle.command_plan.proofs.Promised.{short_for_words}
-use Rattle.bank_tool.proofs.CommandSteps.{no_command, block_answers, compile_answers, play_answers}
+use Rattle.bank_tool.proofs.CommandSteps.{no_command, block_answers, compile_answers, check_answers, decompile_answers, play_answers}
+use Rattle.bank_tool.proofs.MakeSteps.{make_answers}
 use Rattle.bank_tool.proofs.top.run.Goals as goal
 
 pub returns-in-Err-clause-told : goal.returns-in-Err-clause-told
@@ -21,3 +22,15 @@ returns-in-Ok-Some-clause-compile g c = λ files manifest told is.
 pub returns-in-Ok-Some-clause-play : goal.returns-in-Ok-Some-clause-play
 returns-in-Ok-Some-clause-play g c = λ files kind file entry count told is.
     play_answers (Some c.in-Ok-Some.command) files kind file entry count (g.H.Host.world c.args.host.now) (g.H.Host.world c.obey.new.host) c.obey.result (sym c.in-Ok-Some.field-0-is ∙ c.in-Ok-Some.ensures ∙ is) (c.obey.ensures.told files told)
+
+pub returns-in-Ok-Some-clause-make : goal.returns-in-Ok-Some-clause-make
+returns-in-Ok-Some-clause-make g c = λ files number told is.
+    make_answers (Some c.in-Ok-Some.command) files number (g.H.Host.world c.args.host.now) (g.H.Host.world c.obey.new.host) c.obey.result (sym c.in-Ok-Some.field-0-is ∙ c.in-Ok-Some.ensures ∙ is) (c.obey.ensures.told files told)
+
+pub returns-in-Ok-Some-clause-decompile : goal.returns-in-Ok-Some-clause-decompile
+returns-in-Ok-Some-clause-decompile g c = λ files kind file output told is.
+    decompile_answers (Some c.in-Ok-Some.command) files kind file output (g.H.Host.world c.args.host.now) (g.H.Host.world c.obey.new.host) c.obey.result told c.sounds_for_ever.ensures (sym c.in-Ok-Some.field-0-is ∙ c.in-Ok-Some.ensures ∙ is) (c.obey.ensures.told files told)
+
+pub returns-in-Ok-Some-clause-check : goal.returns-in-Ok-Some-clause-check
+returns-in-Ok-Some-clause-check g c = λ files manifest told is.
+    check_answers (Some c.in-Ok-Some.command) files manifest (g.H.Host.world c.args.host.now) (g.H.Host.world c.obey.new.host) c.obey.result (sym c.in-Ok-Some.field-0-is ∙ c.in-Ok-Some.ensures ∙ is) (c.obey.ensures.told files told)

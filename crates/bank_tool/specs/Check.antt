@@ -1,0 +1,109 @@
+-- The command `check`: the stored files of a bank are compared with its sources, and its certificates are tested.
+use Rattle.std.specs.Prelude.{ℕ, nat_lt, if◌then◌else◌, List, [], ◌∷◌, ◌++◌, length, Result, Ok, Err}
+use Rattle.std.specs.List.{flat_map}
+use Rattle.host_files.specs.Outside.{Files}
+use Rattle.host_files.specs.declared.named_file.NamedFile.{NamedFile}
+use Rattle.machine_core.specs.declared.state.Kind.{Kind}
+use Rattle.machine_core.specs.declared.state.Kind.TheVariants.{Brr, Spu, Ima}
+use Rattle.machine_core.specs.Blocks.{Blocks}
+use Rattle.manifest_reader.specs.Meaning.{Content}
+use Rattle.manifest_reader.specs.Stored.{vag_name_of, ima_name_of, cert_name_of}
+use Rattle.snes_directory.specs.declared.image.Image.{Image}
+use Rattle.report_text.specs.declared.report.SampleReport.{SampleReport}
+use Rattle.report_text.specs.Report.{sample_line, done_line}
+use Rattle.bank_kinds.specs.Kinds.{codec_for}
+use Rattle.bank_kinds.specs.Fits.{error_of, loop_shown}
+use Rattle.bank_check.specs.declared.proven.Proven.{Proven}
+use Rattle.bank_check.specs.Proven.{proven_of}
+use Rattle.bank_check.specs.Stored.{bank_image, image_list, vag_list, ima_list}
+use Rattle.command_plan.specs.declared.status.Status.{Status}
+use Rattle.command_plan.specs.declared.status.Status.TheVariants.{Input, Refused}
+use Rattle.command_plan.specs.declared.status.HostCall.{HostCall}
+use Rattle.command_plan.specs.declared.status.HostCall.TheVariants.{Fetch}
+use Rattle.command_plan.specs.declared.input_fault.InputFault.{InputFault}
+use Rattle.command_plan.specs.declared.input_fault.InputFault.TheVariants.{FileLong}
+use Rattle.command_plan.specs.Reading.{Reading, nothing_read, then_read, writing_course, tested_reading}
+use Rattle.command_plan.specs.Read.{Read, as_reading, given, fetched_for, ◌>>=◌, read_all}
+use Rattle.command_plan.specs.Promise.{Choice}
+use Rattle.bank_tool.specs.declared.source.Source.{Source}
+use Rattle.bank_tool.specs.Source.{front_in, or_told}
+use Rattle.bank_tool.specs.Compile.{meaning_in, sources_in, sources_reading}
+
+-- a bank in files of its own has no image
+abbrev pub no_image : Image
+no_image = record { base = 0; rates = []; memory = []; starts = []; agains = [] }
+
+-- the image of a bank, where its format has one
+abbrev pub image_by : Kind → Files → Content → Read Image
+image_by Brr files m = fetched_for m.bank (or_told (λ f. Input m.bank f) (bank_image (length m.samples) (front_in files m.bank 8388608)))
+image_by Spu files m = given (Ok no_image)
+image_by Ima files m = given (Ok no_image)
+
+-- the list that is stored for sample j: in the image, or in a file of its own
+abbrev pub stored_by : Kind → Files → Content → Image → ℕ → Source → Result Blocks InputFault
+stored_by Brr files m image j s = image_list image j s.fitted
+stored_by Spu files m image j s = vag_list s.fitted (front_in files (vag_name_of m.bank s.name) 8388608)
+stored_by Ima files m image j s = ima_list m.block s.fitted (front_in files (ima_name_of m.bank s.name) 8388608)
+
+-- that file
+abbrev pub own_calls : Kind → Content → Source → List HostCall
+own_calls Brr m s = []
+own_calls Spu m s = Fetch (vag_name_of m.bank s.name) ∷ []
+own_calls Ima m s = Fetch (ima_name_of m.bank s.name) ∷ []
+
+abbrev pub stored_read : Files → Content → Image → ℕ → Source → Read Blocks
+stored_read files m image j s = record { calls = own_calls m.kind m s; gives = or_told (λ f. Input s.name f) (stored_by m.kind files m image j s) }
+
+-- what the front of its certificate proves
+unfoldable pub proven_in : Content → Source → List ℕ → Result Proven Status
+proven_in m s front =
+    if nat_lt 33554432 (length front) then Err (Input s.name (FileLong 33554432))
+    else or_told (λ f. Refused s.name f) (proven_of (codec_for m.kind m.block) s.fitted front)
+
+abbrev pub proven_read : Files → Content → Source → Read Proven
+proven_read files m s = fetched_for (cert_name_of m.bank s.name) (proven_in m s (front_in files (cert_name_of m.bank s.name) 33554432))
+
+-- what is told of a sample: the error of the stored list, and the bound and the levels of the certificate
+abbrev pub report_of : Content → Source → Blocks → Proven → SampleReport
+report_of m s list proven = record {
+  name = s.name;
+  blocks = s.fitted.blocks;
+  shown = loop_shown s.fitted.loop_block s.fitted.loop_frames;
+  error = error_of (codec_for m.kind m.block) s.fitted list;
+  bound = proven.bound;
+  levels = proven.levels;
+}
+
+-- one sample: its list, and then its certificate
+abbrev pub sample_read : Files → Content → Image → ℕ → Source → Read SampleReport
+sample_read files m image j s = do
+  list ← stored_read files m image j s
+  proven ← proven_read files m s
+  given (Ok (report_of m s list proven))
+
+-- the image, and then each sample
+abbrev pub bank_read : Files → Content → List Source → Read (List SampleReport)
+bank_read files m sources = do
+  image ← image_by m.kind files m
+  read_all (sample_read files m image) 0 sources
+
+-- a line for each sample, and the line that ends the report; no file is stored
+unfoldable pub check_text : List SampleReport → List ℕ
+check_text reports = flat_map sample_line reports ++ done_line (length reports) 0
+
+-- what is done for sources that were read, where they were
+abbrev pub checked_by : Files → Content → Result (List Source) Status → Reading
+checked_by files m (Ok sources) = then_read (as_reading (bank_read files m sources)) (writing_course [])
+checked_by files m (Err s) = nothing_read
+
+-- the sources are read as for `compile`, and then what is stored
+abbrev pub check_bank : Files → Content → Reading
+check_bank files m = then_read (sources_reading files m) (checked_by files m (sources_in files m))
+
+abbrev pub check_by : Files → Result Content Status → Reading
+check_by files (Ok m) = check_bank files m
+check_by files (Err s) = nothing_read
+
+-- the manifest is fetched and read, then the files that it names, then those that are stored, and then the report is said
+abbrev pub check_course : Files → List ℕ → Reading
+check_course files manifest = then_read (tested_reading manifest (meaning_in files manifest)) (check_by files (meaning_in files manifest))

@@ -73,13 +73,18 @@ def first_pass_name(bank, name):
     return f"{bank}.{name}.first.wav"
 
 
+def cert_name(bank, name):
+    """The file that a sample's certificate is stored in."""
+    return f"{bank}.{name}.cert"
+
+
 def refuse_clash(manifest, own):
     """Refuses a source, or the manifest's own name, that the bank itself would store."""
     bank, entries = manifest["bank"], manifest["samples"]
     ending = {"spu": "vag", "ima": "wav"}.get(manifest["format"])
     stored = {f"{bank}.{entry['name']}.{ending}" for entry in entries} if ending else {bank}
     for entry in entries:
-        stored |= {first_pass_name(bank, entry["name"]), f"{bank}.{entry['name']}.cert"}
+        stored |= {first_pass_name(bank, entry["name"]), cert_name(bank, entry["name"])}
     for name in [entry["file"] for entry in entries] + [own]:
         if name in stored:
             raise Refused("Clash", name)

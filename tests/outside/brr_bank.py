@@ -1,4 +1,4 @@
-"""Banks of BRR, plainly: the blocks of a sample, its bound, and the image of a bank.
+"""Banks of BRR, plainly: the blocks of a sample, their floors, and the image of a bank.
 
 The rules are those of docs/FORMATS.md; nothing here is shared with the program. plain_compiler.py makes banks with it.
 """
@@ -20,7 +20,7 @@ SIZE, SCALE, cost = 16, 2, brr.cost
 IN_FRAMES = False
 
 
-# Choosing blocks
+# Blocks
 
 
 @functools.lru_cache(maxsize=None)
@@ -29,51 +29,18 @@ def samples(shift):
     return brr.samples(shift)
 
 
-def follow(head, last, older, targets, limit):
-    """The sum and the codes when the first code of least cost is taken at each place; None where the sum reaches the limit."""
-    total, codes = 0, []
-    for target in targets:
-        predicted = brr.prediction(head % 4, last, older)
-        outputs = [brr.output(sample + predicted) for sample in samples(head // 4)]
-        costs = [brr.cost(out, target) for out in outputs]
-        least = min(costs)
-        total += least
-        if total >= limit:
-            return None
-        codes.append(costs.index(least))
-        last, older = outputs[codes[-1]], last
-    return total, codes
-
-
-def heads_allowed(begins):
-    """The heads of a block; filter 0 alone where a segment begins."""
-    return [head for head in brr.HEADS if head % 4 == 0 or not begins]
-
-
-def choose_block(begins, last, older, targets):
-    """The first allowed head of least sum, and its codes."""
-    least, best = math.inf, None
-    for head in heads_allowed(begins):
-        found = follow(head, last, older, targets, least)
-        if found:
-            least, best = found[0], (head, found[1])
-    return best
-
-
-def encode(targets, loop_block):
-    """The blocks of a sample, and its outputs."""
-    count = len(targets) // 16
+def spelled(heads, symbols, loop_block):
+    """The blocks of a sample with these heads and symbols, and its outputs."""
     blocks, outputs = [], [0, 0]
-    for block in range(count):
+    for block, head in enumerate(heads):
         older, last = outputs[-2:]
-        end = 0 if block + 1 < count else 1 if loop_block is None else 3
-        head, codes = choose_block(block in (0, loop_block), last, older, targets[16 * block : 16 * block + 16])
-        blocks.append(brr.spell(head, codes, end))
+        end = 0 if block + 1 < len(heads) else 1 if loop_block is None else 3
+        blocks.append(brr.spell(head, symbols[SIZE * block : SIZE * (block + 1)], end))
         outputs += brr.decode(blocks[-1], last, older)
     return b"".join(blocks), outputs[2:]
 
 
-# The bound
+# Floors
 
 
 @functools.lru_cache(maxsize=None)
@@ -109,14 +76,6 @@ def head_floor(head, targets):
         odd = sum(target % 2 for target in window)
         floor += max(odd, window_floor(shift, filter_, [0] * (3 - size) + window))
     return floor
-
-
-def bound(targets, loop_block):
-    """The sum of the least floors of a sample's blocks."""
-    blocks = [targets[at : at + 16] for at in range(0, len(targets), 16)]
-    return sum(
-        min(head_floor(head, block) for head in heads_allowed(number in (0, loop_block))) for number, block in enumerate(blocks)
-    )
 
 
 def check_floors():

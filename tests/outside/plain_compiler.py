@@ -4,6 +4,7 @@ The rules are those of docs/FORMATS.md; nothing here is shared with the program.
 """
 
 import contextlib
+import itertools
 import math
 from typing import NamedTuple
 
@@ -12,7 +13,9 @@ import brr_bank
 import ima_bank
 import spu_bank
 import wave_file
-from bank_manifest import first_pass_name
+from bank_manifest import cert_name, first_pass_name
+from plain_machines import machine_of
+from plain_search import certificate, search_sample
 from wave_file import Refused
 
 MOST_SOURCE, MOST_BLOCKS, MOST_TARGETS = 4194304, 4096, 262144
@@ -121,20 +124,18 @@ def read_sample(files, manifest, entry):
         return fit_sample(form_of(manifest), manifest, entry["name"], rate, frames, loop)
 
 
-def loop_and_segments(form, sample):
-    """How a sample's loop is told, and how many of its runs of blocks stand alone."""
+def loop_shown(form, sample):
+    """How a sample's loop is told."""
     if form.IN_FRAMES:
-        return f"{sample.loop[0]}..{sample.loop[1]}" if sample.loop else "none", len(sample.targets) // form.SIZE
-    return "none" if sample.loop_block is None else sample.loop_block, 2 if sample.loop_block else 1
+        return f"{sample.loop[0]}..{sample.loop[1]}" if sample.loop else "none"
+    return "none" if sample.loop_block is None else sample.loop_block
 
 
-def sample_line(form, sample, error):
+def sample_line(form, sample, error, bound, levels):
     """The line of one sample in the report."""
-    floor = form.bound(sample.targets, sample.loop_block)
-    loop, segments = loop_and_segments(form, sample)
-    line = f"sample {sample.name} blocks {len(sample.targets) // form.SIZE} loop {loop} error {error} bound {floor}"
-    line += f" gap {error - floor} levels 0 0 0 {segments}"
-    return line + (" optimal\n" if error == floor else "\n")
+    counts = " ".join(str(levels.count(level)) for level in (0, 4, 8, 255))
+    line = f"sample {sample.name} blocks {len(sample.targets) // form.SIZE} loop {loop_shown(form, sample)} error {error}"
+    return line + f" bound {bound} gap {error - bound} levels {counts}" + (" optimal\n" if error == bound else "\n")
 
 
 def first_pass(form, sample, outputs):
@@ -142,8 +143,8 @@ def first_pass(form, sample, outputs):
     return wave_file.write([form.SCALE * out for out in outputs[: sample.played]], sample.rate, sample.loop)
 
 
-def form_bank(files, own):
-    """The files that a bank stores, and its report."""
+def open_bank(files, own):
+    """The manifest of a bank, what makes its blocks, and its samples, which have room."""
     data = fetch(files, own)
     with told_as(3, "manifest"):
         manifest = bank_manifest.read(data, own)
@@ -151,12 +152,24 @@ def form_bank(files, own):
     found = [read_sample(files, manifest, entry) for entry in manifest["samples"]]
     with told_as(6, manifest["bank"]):
         form.refuse_full(manifest, found)
+    return manifest, form, found
+
+
+def form_bank(files, own):
+    """The files that a bank stores, and its report."""
+    manifest, form, found = open_bank(files, own)
+    machine = machine_of(manifest)
     stored, bodies, report = {}, [], ""
     for sample in found:
-        body, outputs = form.encode(sample.targets, sample.loop_block)
+        segments = search_sample(machine, sample.targets, sample.loop_block, manifest["beam"], manifest["budget"])
+        heads, symbols = (list(itertools.chain(*parts)) for parts in zip(*((part.heads, part.symbols) for part in segments)))
+        body, outputs = form.spelled(heads, symbols, sample.loop_block)
         bodies.append(body)
         stored[first_pass_name(manifest["bank"], sample.name)] = first_pass(form, sample, outputs)
-        report += sample_line(form, sample, sum(map(form.cost, outputs, sample.targets)))
+        stored[cert_name(manifest["bank"], sample.name)] = certificate(machine, segments)
+        error = sum(map(form.cost, outputs, sample.targets))
+        assert error == sum(part.sum for part in segments)
+        report += sample_line(form, sample, error, sum(part.bound for part in segments), [part.level for part in segments])
     stored.update(form.block_files(manifest, found, bodies))
     return stored, report + f"done {len(found)} samples {len(stored)} files\n"
 

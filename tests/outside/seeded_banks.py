@@ -27,7 +27,7 @@ class Bank(NamedTuple):
 
 def manifest(samples, **keys):
     """A manifest of some samples; a key of None is left out."""
-    top = {"format": "brr", "bank": "x.img", **keys}
+    top = {"format": "brr", "bank": "x.img", "beam": 2, "budget": 300, **keys}
     lines = [f"{key} = {json.dumps(value)}" for key, value in top.items() if value is not None]
     for sample in samples:
         lines.append("[[sample]]")
@@ -173,8 +173,8 @@ def fitting_bank(number, form="brr", size=16, align=None):
         bank=rng.choice(("x.img", "0", "B_a-n.k")),
         base=rng.choice((None, 0, 256, 32768)),
         block=align or rng.choice((None, 8)),
-        beam=rng.choice((None, 1, 64)),
-        budget=rng.choice((None, 0)),
+        beam=rng.choice((1, 1, 2, 3)),
+        budget=rng.choice((0, 20, 150)) if align else rng.choice((0, 40, 300, 2000)),
         length=length,
         start=rng.choice((None, "front", "rotate")),
     )

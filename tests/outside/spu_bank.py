@@ -1,4 +1,4 @@
-"""Banks of SPU-ADPCM, plainly: the blocks of a sample, its bound, and its VAG file.
+"""Banks of SPU-ADPCM, plainly: the blocks of a sample, their floors, and its VAG file.
 
 The rules are those of docs/FORMATS.md; nothing here is shared with the program. plain_compiler.py makes banks with it.
 """
@@ -16,7 +16,6 @@ from window_floor import SPU, floor_of_window
 SIZE, SCALE = 28, 1
 # A loop lies on whole blocks, and all their outputs are played.
 IN_FRAMES = False
-HEADS = range(80)
 
 
 def cost(output, target):
@@ -24,7 +23,7 @@ def cost(output, target):
     return (output - target) ** 2
 
 
-# Choosing blocks
+# Blocks
 
 
 @functools.lru_cache(maxsize=None)
@@ -33,52 +32,19 @@ def samples(shift):
     return [spu.sample(shift, code) for code in range(16)]
 
 
-def follow(head, last, older, targets, limit):
-    """The sum and the codes when the first code of least cost is taken at each place; None where the sum reaches the limit."""
-    total, codes = 0, []
-    for target in targets:
-        predicted = spu.prediction(head // 16, last, older)
-        outputs = [spu.clamp(sample + predicted) for sample in samples(head % 16)]
-        costs = [cost(out, target) for out in outputs]
-        least = min(costs)
-        total += least
-        if total >= limit:
-            return None
-        codes.append(costs.index(least))
-        last, older = outputs[codes[-1]], last
-    return total, codes
-
-
-def heads_allowed(begins):
-    """The heads of a block; filter 0 alone where a segment begins."""
-    return [head for head in HEADS if head < 16 or not begins]
-
-
-def choose_block(begins, last, older, targets):
-    """The first allowed head of least sum, and its codes."""
-    least, best = math.inf, None
-    for head in heads_allowed(begins):
-        found = follow(head, last, older, targets, least)
-        if found:
-            least, best = found[0], (head, found[1])
-    return best
-
-
-def encode(targets, loop_block):
-    """The blocks of a sample, and its outputs."""
-    count = len(targets) // SIZE
+def spelled(heads, symbols, loop_block):
+    """The blocks of a sample with these heads and symbols, and its outputs."""
     blocks, outputs = [], [0, 0]
-    for block in range(count):
+    for block, head in enumerate(heads):
         older, last = outputs[-2:]
-        flags = 0 if block + 1 < count else 1 if loop_block is None else 3
+        flags = 0 if block + 1 < len(heads) else 1 if loop_block is None else 3
         flags += 4 if block == loop_block else 0
-        head, codes = choose_block(block in (0, loop_block), last, older, targets[SIZE * block : SIZE * (block + 1)])
-        blocks.append(spu.spell(head, codes, flags))
+        blocks.append(spu.spell(head, symbols[SIZE * block : SIZE * (block + 1)], flags))
         outputs += spu.decode(blocks[-1], last, older)
     return b"".join(blocks), outputs[2:]
 
 
-# The bound
+# Floors
 
 
 @functools.lru_cache(maxsize=None)
@@ -99,24 +65,6 @@ def window_floor(shift, filter_, targets):
     miss = min(below, above)
     shared = -(-miss * miss // (d * d + a * a + b * b))
     return min(shared, cost(32767, x), cost(-32768, x))
-
-
-def head_floor(head, targets):
-    """The floor under a block with a head; places left over at the end cost nothing."""
-    filter_, shift = divmod(head, 16)
-    if filter_ == 0:
-        return sum(min(cost(out, target) for out in samples(shift)) for target in targets)
-    size = min(filter_, 2) + 1
-    windows = (targets[first : first + size] for first in range(0, SIZE - SIZE % size, size))
-    return sum(window_floor(shift, filter_, [0] * (3 - size) + window) for window in windows)
-
-
-def bound(targets, loop_block):
-    """The sum of the least floors of a sample's blocks."""
-    blocks = [targets[at : at + SIZE] for at in range(0, len(targets), SIZE)]
-    return sum(
-        min(head_floor(head, block) for head in heads_allowed(number in (0, loop_block))) for number, block in enumerate(blocks)
-    )
 
 
 def check_floors():

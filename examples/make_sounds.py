@@ -1,5 +1,6 @@
 #!/usr/bin/env python3
-"""Makes the sounds of the examples: a plucked string, a drum, an organ, a vowel, a noise hit and a plain tone.
+"""Makes the sounds of the examples: a plucked string, a drum, an organ, a vowel, a noise hit, a plain tone, and single turns of
+three waves.
 
 Each is a 16-bit mono WAVE file; all but the drum and the hit have a loop in a `smpl` chunk.
 The files are the same on every run.
@@ -92,6 +93,11 @@ def hit(frames):
     return out, None
 
 
+def turn(period, wave_at):
+    """One turn of a wave, which is its own loop; the wave is a function of the part of the turn."""
+    return [0.85 * wave_at(i / period) for i in range(period)], (0, period - 1)
+
+
 def chunk(name, body):
     return name + struct.pack("<I", len(body)) + body + b"\0" * (len(body) % 2)
 
@@ -116,6 +122,9 @@ def main():
         "vowel": vowel(1900, 100),
         "hit": hit(2400),
         "tone": tone(1600, 800, 100),
+        "sine": turn(64, lambda part: math.sin(2 * math.pi * part)),
+        "pulse": turn(64, lambda part: 1 if part < 0.125 else -1 / 7),
+        "square": turn(32, lambda part: 1 if part < 0.5 else -1),
     }
     for name, (sound, loop) in sounds.items():
         with open(os.path.join(HERE, name + ".wav"), "wb") as file:

@@ -5,6 +5,7 @@ The inputs are the same on every run. Ratios compare lines of one run: they say 
 """
 import os
 import re
+import resource
 import shutil
 import struct
 import subprocess
@@ -36,8 +37,9 @@ def wave(samples):
     return chunk(b"RIFF", b"WAVE" + chunk(b"fmt ", fmt) + chunk(b"data", data))
 
 
-def manifest(bank, file):
-    return 'format = "brr"\nbank = "%s"\n[[sample]]\nname = "s"\nfile = "%s"\n' % (bank, file)
+def manifest(bank, file, kind="brr", beam=1, budget=0):
+    top = 'format = "%s"\nbank = "%s"\nbeam = %d\nbudget = %d\nblock = 256\n' % (kind, bank, beam, budget)
+    return top + '[[sample]]\nname = "s"\nfile = "%s"\n' % file
 
 
 def image(blocks):
@@ -53,37 +55,87 @@ def write(name, content):
 
 
 def run(*words):
-    """The least time of three runs, in seconds."""
+    """The least time of three runs, in seconds, and what was said."""
     best = None
     for _ in range(3):
         begin = time.perf_counter()
-        subprocess.run([ADBANK, *words], cwd=WORK, stdout=subprocess.DEVNULL, check=False)
+        done = subprocess.run([ADBANK, *words], cwd=WORK, stdout=subprocess.PIPE, check=False)
         taken = time.perf_counter() - begin
         best = taken if best is None else min(best, taken)
-    return best
+    return best, done.stdout.decode()
 
 
-def main():
-    if not os.path.exists(ADBANK):
-        sys.exit("bench: run make first")
-    os.makedirs(WORK, exist_ok=True)
+def cells_in(name):
+    """How many cells the certificate of a file lists."""
+    with open(os.path.join(WORK, name), "rb") as file:
+        data = file.read()
+    cells, at = 0, 8
+    for _ in range(struct.unpack_from("<H", data, 6)[0]):
+        layers = struct.unpack_from("<I", data, at + 12)[0]
+        at += 16
+        for _ in range(layers):
+            count = struct.unpack_from("<I", data, at + 6)[0]
+            cells += count
+            at += 10 + 12 * count
+    return cells, len(data)
+
+
+def show(title, rows):
+    """Rows by twos, the second of each beside the first."""
+    print("%-34s %10s %8s" % (title, "seconds", "ratio"))
+    for i, (name, taken) in enumerate(rows):
+        ratio = "" if i % 2 == 0 else "%8.1f" % (taken / rows[i - 1][1])
+        print("%-34s %10.3f %s" % (name, taken, ratio))
+    print()
+
+
+def reading():
+    """Compiling by a narrow beam, walking chunks, and playing."""
     rows = []
     for frames in (8192, 65536):
         write("f%d.wav" % frames, wave(noise(frames)))
         write("f%d.toml" % frames, manifest("f%d.img" % frames, "f%d.wav" % frames))
-        rows.append(("compile %d frames" % frames, run("compile", "f%d.toml" % frames)))
+        rows.append(("compile %d frames" % frames, run("compile", "f%d.toml" % frames)[0]))
     for chunks in (65536, 524286):
         write("c%d.wav" % chunks, b"RIFF" + struct.pack("<I", 4 + 8 * chunks) + b"WAVE" + b"LIST\0\0\0\0" * chunks)
         write("c%d.toml" % chunks, manifest("c%d.img" % chunks, "c%d.wav" % chunks))
-        rows.append(("walk %d chunks" % chunks, run("compile", "c%d.toml" % chunks)))
+        rows.append(("walk %d chunks" % chunks, run("compile", "c%d.toml" % chunks)[0]))
     write("play.img", image(4096))
     for count in (100000, 1000000):
-        rows.append(("play %d outputs" % count, run("play", "brr", "play.img", "0", str(count))))
-    print("%-24s %10s %8s" % ("", "seconds", "ratio"))
-    for i, (name, taken) in enumerate(rows):
-        ratio = "" if i % 2 == 0 else "%8.1f" % (taken / rows[i - 1][1])
-        print("%-24s %10.3f %s" % (name, taken, ratio))
-    profile("f8192.toml")
+        rows.append(("play %d outputs" % count, run("play", "brr", "play.img", "0", str(count))[0]))
+    show("", rows)
+
+
+def beams():
+    """Beams of two widths in each format."""
+    rows = []
+    for kind, frames in (("brr", 65536), ("spu", 65536), ("ima", 22050)):
+        write("b%s.wav" % kind, wave(noise(frames)))
+        for beam in (1, 8):
+            name = "b%s%d" % (kind, beam)
+            write(name + ".toml", manifest(name, "b%s.wav" % kind, kind, beam))
+            rows.append(("%s, %d frames, beam %d" % (kind, frames, beam), run("compile", name + ".toml")[0]))
+    show("beam", rows)
+
+
+def search():
+    """Searches of one segment by budgets, and checks of what they leave."""
+    print("%-34s %10s %10s %10s %12s" % ("search, then check", "seconds", "cells", "bytes", "us a cell"))
+    write("s.wav", wave([value // 16 for value in noise(512)]))
+    for kind in ("brr", "spu", "ima"):
+        for budget in (10000, 100000, 1000000):
+            name = "s%s%d" % (kind, budget)
+            write(name + ".toml", manifest(name, "s.wav", kind, 8, budget))
+            taken, said = run("compile", name + ".toml")
+            cells, size = cells_in(name + ".s.cert")
+            levels = said.split("levels ")[1].split("\n")[0]
+            print("%-34s %10.3f %10d %10d %12s" % ("%s, budget %d, levels %s" % (kind, budget, levels), taken, cells, size, ""))
+            taken, _ = run("check", name + ".toml")
+            each = "%12.2f" % (1e6 * taken / cells) if cells else ""
+            print("%-34s %10.3f %10d %10d %s" % ("    its check", taken, cells, size, each))
+    most = resource.getrusage(resource.RUSAGE_CHILDREN).ru_maxrss
+    print("largest memory of a run: %d MB" % (most // 1024))
+    print()
 
 
 def profile(name):
@@ -97,7 +149,7 @@ def profile(name):
     subprocess.run([*tool, ADBANK, "compile", name], check=True, **quiet)
     told = subprocess.run(["callgrind_annotate", "--inclusive=yes", "--threshold=100", out],
                           capture_output=True, text=True, check=True).stdout
-    parts = (("choice of the blocks", "bank_compile::greedy::greedy"), ("floors", "bank_compile::sample::bound"))
+    parts = (("beam", "beam_encoder::top::beam"), ("beam and search", "bank_compile::segment::search_segment"))
     counts = []
     for _, function in parts:
         line = next((row for row in told.splitlines() if function in row), None)
@@ -105,11 +157,20 @@ def profile(name):
             print("profile: skipped, since %s is not to be seen" % function)
             return
         counts.append(int(re.match(r" *([0-9,]+)", line).group(1).replace(",", "")))
-    print()
-    print("%-24s %14s %8s" % (name, "instructions", "ratio"))
+    print("%-34s %14s %8s" % (name, "instructions", "ratio"))
     for i, (part, _) in enumerate(parts):
         ratio = "" if i == 0 else "%8.2f" % (counts[i] / counts[0])
-        print("%-24s %14d %s" % (part, counts[i], ratio))
+        print("%-34s %14d %s" % (part, counts[i], ratio))
+
+
+def main():
+    if not os.path.exists(ADBANK):
+        sys.exit("bench: run make first")
+    os.makedirs(WORK, exist_ok=True)
+    reading()
+    beams()
+    search()
+    profile("f8192.toml")
 
 
 main()

@@ -3,15 +3,20 @@
 
 local -a commands=(
     'compile:compile the bank that a manifest describes'
+    'check:check a stored bank and its certificates against the sources'
+    'decompile:store a WAVE file for each entry of an image, a VAG file or a WAVE file of IMA ADPCM'
     'play:say the first outputs of an entry of an image, a VAG file or a WAVE file of IMA ADPCM'
+    'make:compile sounds that a number gives, and store nothing'
     'block:make one block of sixteen raw samples'
 )
 
 case $CURRENT,$words[2] in
     2,*) _describe command commands ;;
-    3,compile) _files -g '*.toml' ;;
-    3,play) compadd brr vag ima ;;
-    4,play) _files ;;
+    3,compile | 3,check) _files -g '*.toml' ;;
+    3,play | 3,decompile) compadd brr vag ima ;;
+    4,play | 4,decompile) _files ;;
+    5,decompile) _message 'how the names of the WAVE files begin' ;;
+    3,make) _message 'number' ;;
     5,play) _message 'entry, counted from 0' ;;
     6,play) _message 'count of outputs' ;;
     [34],block) _files ;;

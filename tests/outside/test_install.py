@@ -73,11 +73,10 @@ class Install(unittest.TestCase):
     def test_words_of_the_manual(self):
         """The manual page has every key of a manifest and every status."""
         text = (ROOT / "adbank.1").read_text()
-        for key in ("format", "bank", "base", "length", "start", "name", "file", "channel", "loop"):
+        for key in ("format", "bank", "base", "length", "start", "block", "beam", "budget", "name", "file", "channel", "loop"):
             self.assertIn(f"\n.It Ic {key}\n", text)
-        self.assertIn("\n.It Ic beam , budget\n", text)
         statuses = text.split(".Sh EXIT STATUS")[1].split(".Sh")[0]
-        self.assertEqual([line[4:] for line in statuses.splitlines() if line.startswith(".It ")], list("012345689"))
+        self.assertEqual([line[4:] for line in statuses.splitlines() if line.startswith(".It ")], list("0123456789"))
 
     def offers(self, *words):
         """What bash offers for the last of some words behind `adbank`."""
@@ -91,8 +90,11 @@ class Install(unittest.TestCase):
         for name in ("my bank.toml", "x.toml", "x.wav", "a b/y.toml"):
             (self.folder / name).touch()
         (self.folder / "x.img").write_bytes(b"SNBI\1\0\3\0")
-        self.assertEqual(self.offers(""), ["block", "compile", "play"])
-        self.assertEqual(self.offers("c"), ["compile"])
+        self.assertEqual(self.offers(""), ["block", "check", "compile", "decompile", "make", "play"])
+        self.assertEqual(self.offers("c"), ["check", "compile"])
+        self.assertEqual(self.offers("check", ""), ["a b", "my bank.toml", "x.toml"])
+        self.assertEqual(self.offers("decompile", ""), ["brr", "ima", "vag"])
+        self.assertEqual(self.offers("decompile", "brr", "x"), ["x.img", "x.toml", "x.wav"])
         self.assertEqual(self.offers("compile", ""), ["a b", "my bank.toml", "x.toml"])
         self.assertEqual(self.offers("compile", "a b/"), ["a b/y.toml"])
         self.assertEqual(self.offers("play", ""), ["brr", "ima", "vag"])

@@ -22,8 +22,9 @@ import xml.etree.ElementTree as tree
 
 import bank_manifest
 import brr
-import brr_bank
 import plain_compiler
+import plain_machines
+import plain_search
 import wave_file
 
 ROOT = pathlib.Path(__file__).resolve().parents[2]
@@ -72,7 +73,7 @@ def sources():
 
 def manifest(names):
     """The manifest of the bank."""
-    text = 'format = "brr"\nbank = "b.img"\nlength = "unroll"\nstart = "rotate"\n'
+    text = 'format = "brr"\nbank = "b.img"\nlength = "unroll"\nstart = "rotate"\nbeam = 1\nbudget = 200\n'
     return text + "".join(f'[[sample]]\nname = "{name}"\nfile = "{name}.wav"\n{more}\n' for name, (_, more) in names.items())
 
 
@@ -86,7 +87,9 @@ class Found:
         self.first, self.loop_block = plain_compiler.fit(frames, loop, settings["length"], settings["start"], 16)
         self.outputs = [2 * out for out in decoded(folder / settings["bank"], place, len(self.first) // 16)]
         self.errors = [(out - target) ** 2 for out, target in zip(self.outputs, self.first)]
-        self.bound = brr_bank.bound(self.first, self.loop_block)
+        machine = plain_machines.machine_of(settings)
+        found = plain_search.search_sample(machine, self.first, self.loop_block, settings["beam"], settings["budget"])
+        self.bound = sum(part.bound for part in found)
 
     def at(self, values, place):
         """A value of the first pass, or of the rounds behind it."""

@@ -1,24 +1,10 @@
-ghost use Rattle.std.specs.Prelude.{◌≡◌, ◌<◌, ◌++◌, All, IfSome, OnOk, length};
-
+use crate::codes::codes_of;
 use crate::encode::{Encode, Stored};
 use crate::spell::spell_blocks;
 use adpcm_nums::{Bytes, NoMemory};
 use brr_machine::{Brr, BrrBlock, spell_block};
 use machine_core::Choice;
 use std::alloc::Global;
-
-/// The codes of a block.
-fn codes_of(symbols: &[u32]) -> [u8; 16]
-    requires count { length symbols.now ≡ 16 }
-    requires range { All (λ c. c < 16) symbols.now }
-    ensures { result ≡ symbols.now }
-{
-    let mut codes = [0u8; 16];
-    for place in 0..16 {
-        codes[place] = symbols[place] as u8;
-    }
-    codes
-}
 
 impl Stored for Brr {
     ghost use Rattle.player_model.specs.BrrFormat.{brr_format};

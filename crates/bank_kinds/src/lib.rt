@@ -3,6 +3,7 @@
 #![tactic(auto)]
 
 mod brr;
+mod codes;
 mod encode;
 mod ima;
 mod kinds;

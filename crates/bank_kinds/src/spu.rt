@@ -1,24 +1,10 @@
-ghost use Rattle.std.specs.Prelude.{◌≡◌, ◌<◌, ◌++◌, All, IfSome, OnOk, length};
-
+use crate::codes::codes_of;
 use crate::encode::{Encode, Stored};
 use crate::spell::spell_blocks;
 use adpcm_nums::{Bytes, NoMemory};
 use machine_core::Choice;
 use spu_machine::{Spu, SpuBlock, spell_block};
 use std::alloc::Global;
-
-/// The codes of a block.
-fn codes_of(symbols: &[u32]) -> [u8; 28]
-    requires count { length symbols.now ≡ 28 }
-    requires range { All (λ c. c < 16) symbols.now }
-    ensures { result ≡ symbols.now }
-{
-    let mut codes = [0u8; 28];
-    for place in 0..28 {
-        codes[place] = symbols[place] as u8;
-    }
-    codes
-}
 
 impl Stored for Spu {
     ghost use Rattle.player_model.specs.SpuFormat.{spu_format};

@@ -10,7 +10,7 @@ use Rattle.adpcm_nums.specs.Nibbles.{nibble}
 use Rattle.adpcm_nums.proofs.NearestLaws.{floor-low, floor-high}
 use Rattle.brr_machine.specs.Brr.{sample_of}
 use Rattle.brr_machine.specs.Floors.{samples_under}
-use Rattle.brr_machine.specs.Laws.Outcomes.{sample-at}
+use Rattle.linear_machine.specs.Laws.Codes.{sample-at}
 use Rattle.adpcm_nums.proofs.NibbleValues.{nibble-low, nibble-high, code-of}
 use Rattle.window_floor.proofs.NibbleLevels.{levels-by}
 use Rattle.brr_machine.proofs.PlainCodes.{twice-sample}
@@ -40,8 +40,8 @@ half-level n h k =
 
 pub levels_halved : AreLevels (pos 1) (negsuc 3) (pos 3) (samples_under 0)
 levels_halved = record {
-  are = λ i h. (sample_of 0 i, half-low i h, half-high i h, let at = sample-at 0 i h in omega (arith, ints, at));
-  all = λ n h k. let level = half-level n h k in (level.0, level.1, sample-at 0 level.0 level.1 ∙ level.2);
+  are = λ i h. (sample_of 0 i, half-low i h, half-high i h, let at = sample-at (sample_of 0) i (pos 0) h in omega (arith, ints, at));
+  all = λ n h k. let level = half-level n h k in (level.0, level.1, sample-at (sample_of 0) level.0 (pos 0) level.1 ∙ level.2);
 }
 
 -- a number whose double is a product with an even power
@@ -58,7 +58,7 @@ multiple shift c some few =
 
 pub levels_multiplied : (shift : ℕ) (step : ℤ) → 1 ≤ shift → shift < 13 → step ≡ pos (2 ^ (shift - 1)) → AreLevels step (negsuc 7) (pos 7) (samples_under shift)
 levels_multiplied shift step some few is =
-    levels-by step (samples_under shift) (λ i h. sample-at shift i h ∙ multiple shift i some few ∙ ap (λ z. z *ℤ nibble i) (sym is))
+    levels-by step (samples_under shift) (λ i h. sample-at (sample_of shift) i (pos 0) h ∙ multiple shift i some few ∙ ap (λ z. z *ℤ nibble i) (sym is))
 
 -- from shift 13 on only the sign counts
 sign : (shift c : ℕ) → 13 ≤ shift → sample_of shift c ≡ (if nat_lt c 8 then pos 0 else negsuc 2047)
@@ -80,6 +80,6 @@ level-sign shift (negsuc a) high h k = (8, omega arith, sign shift 8 high ∙ om
 
 pub levels_signed : (shift : ℕ) → 13 ≤ shift → AreLevels (pos 2048) (negsuc 0) (pos 0) (samples_under shift)
 levels_signed shift high = record {
-  are = λ i h. let level = sign-level shift i high in (level.0, level.1, level.2, sample-at shift i h ∙ level.3);
-  all = λ n h k. let level = level-sign shift n high h k in (level.0, level.1, sample-at shift level.0 level.1 ∙ level.2);
+  are = λ i h. let level = sign-level shift i high in (level.0, level.1, level.2, sample-at (sample_of shift) i (pos 0) h ∙ level.3);
+  all = λ n h k. let level = level-sign shift n high h k in (level.0, level.1, sample-at (sample_of shift) level.0 (pos 0) level.1 ∙ level.2);
 }

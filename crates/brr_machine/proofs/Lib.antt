@@ -1,10 +1,8 @@
 pub mod Pairs
 pub mod Reading
-pub mod Runs
 pub mod Fill
 pub mod ZeroCosts
 pub mod ZeroSums
-pub mod Predictions
 pub mod PlainCodes
 pub mod LevelLaws
 pub mod PartAdding

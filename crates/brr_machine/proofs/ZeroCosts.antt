@@ -7,10 +7,9 @@ use Rattle.machine_core.specs.Decoder.{start}
 use Rattle.machine_core.specs.Nearest.{symbol_cost}
 use Rattle.machine_core.specs.Blocks.{Blocks, state_at, symbol_at}
 use Rattle.machine_core.specs.Sums.{cost_at}
-use Rattle.brr_machine.specs.Brr.{brr, prediction_of, shift_of, filter_of}
-use Rattle.brr_machine.specs.Predicted.{predicted_cost, nearest_predicted}
+use Rattle.brr_machine.specs.Brr.{brr, brr_step, output_of, raw_of, prediction_of, shift_of, filter_of}
+use Rattle.brr_machine.specs.Predicted.{predicted_output, predicted_cost, nearest_predicted}
 use Rattle.brr_machine.specs.Zero.{zero_head, code_cost, nearest_code}
-use Rattle.brr_machine.proofs.Predictions.{same-cost}
 
 -- filter 0 predicts 0
 prediction-zero : (filter : ℕ) (o r : ℤ) → filter ≡ 0 → prediction_of filter o r ≡ pos 0
@@ -24,6 +23,11 @@ zero-filter shift = omega arith
 
 zero-shift : (shift : ℕ) → shift_of (zero_head shift) ≡ shift
 zero-shift shift = omega arith
+
+-- after a state a code costs what it costs on top of the state's prediction
+same-cost : (head place : ℕ) (from : State) (target : ℤ) → predicted_cost (shift_of head) (prediction_of (filter_of head) from.a from.b) target ≡ symbol_cost brr head place from target
+unfolding brr_step output_of raw_of predicted_output predicted_cost
+same-cost head place from target = refl
 
 -- whatever the place and the history are
 any-history : (shift place : ℕ) (from : State) (target : ℤ) → predicted_cost shift (pos 0) target ≡ symbol_cost brr (zero_head shift) place from target

@@ -7,7 +7,7 @@ pub mod Ranges
 pub mod Equations
 pub mod Samples
 pub mod Outcomes
-pub mod FloorTruth
+pub mod Linear
 pub mod Rises
 pub mod Cuts
 pub mod Parts
@@ -16,11 +16,12 @@ use Rattle.std.proofs.Common.{◌≡◌, ℕ, ◌<◌, ◌≤◌, arith, refl, t
 use Rattle.machine_core.specs.declared.state.HeadRule.{HeadRule}
 use Rattle.machine_core.specs.declared.state.HeadRule.TheVariants.{AnyHead, FilterZero}
 use Rattle.machine_core.specs.Rules.{IsMachine}
-use Rattle.brr_machine.specs.Brr.{allows_head}
+use Rattle.linear_machine.specs.Laws.Steps.{same-step}
+use Rattle.brr_machine.specs.Brr.{brr, output_of, allows_head}
 use Rattle.brr_machine.specs.BrrRules.{brr_rules}
-use Rattle.brr_machine.specs.Laws.FloorTruth.{brr-floor-below, brr-floor-fits}
-use Rattle.brr_machine.specs.Laws.Forgetting.{brr-forgets}
-use Rattle.brr_machine.specs.Laws.Lanes.{same-step}
+use Rattle.brr_machine.specs.Laws.Linear.{brr-floor-below, brr-floor-fits}
+use Rattle.brr_machine.specs.Laws.Forgetting.{brr-steps, brr-forgets}
+use Rattle.brr_machine.specs.Laws.Lanes.{same-output}
 use Rattle.brr_machine.specs.Laws.Alike.{same-floor}
 use Rattle.brr_machine.specs.Laws.Ranges.{step-fits, cost-small, all-hold}
 
@@ -40,7 +41,7 @@ brr_is_machine = record {
   steps = λ head p symbol at head_fits within symbol_fits is. step-fits head p symbol at is;
   costs_small = cost-small;
   forgets = brr-forgets;
-  lanes_alike = λ g h p q symbol at g_fits h_fits later after within same. same-step g h q symbol at same;
+  lanes_alike = λ g h p q symbol at g_fits h_fits later after within same. same-step brr output_of brr-steps g h q symbol at (same-output g h symbol at.a at.b same);
   lanes_stay = λ g h p g_fits h_fits later within same. same;
   floors_alike = λ g h p bx targets g_fits h_fits later within same. same-floor g h p targets same;
   floors = λ head p bx targets symbol at head_fits within count samples symbols_fit is_box is inside. brr-floor-below head p targets symbol at within symbols_fit;

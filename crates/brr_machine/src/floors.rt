@@ -12,7 +12,7 @@ use crate::row::row;
 use window_floor::BlockWindows;
 
 /// The windows of a block under a head. Clamping gives 32767 and -32768, wrapped to 15 bits.
-fn windows(head: u32) -> BlockWindows
+pub(crate) fn windows(head: u32) -> BlockWindows
     requires { head < 64 }
     ensures samples { StandFor result (samples_under (shift_of head)) }
     ensures windows { windows_of result (samples_under (shift_of head)) ≡ brr_windows head }

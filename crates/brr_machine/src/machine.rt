@@ -1,16 +1,20 @@
+ghost use Rattle.std.proofs.Common.{refl};
 ghost use Rattle.brr_machine.specs.BrrRules.{brr_rules};
 ghost use Rattle.brr_machine.specs.Laws.{brr_is_machine};
+ghost use Rattle.brr_machine.specs.Floors.{brr_linear};
+ghost use Rattle.brr_machine.specs.Laws.Linear.{brr_is_linear};
 ghost use Rattle.brr_machine.specs.Laws.Boxed.{brr_is_boxed};
 
-use crate::filter::predict;
-use crate::floors::fill_floors;
+use crate::floors::{fill_floors, windows};
 use crate::image::image;
 use crate::least::{allows_head, least_floor};
-use crate::nearest::{nearest_code, output_cost};
+use crate::nearest::output_cost;
 use crate::step::brr_output;
-use crate::taken::taken_from;
+use crate::taken::{codes_after, taken_from};
 use adpcm_nums::Span;
+use linear_machine::LinearMachine;
 use machine_core::{Bx, Cell, HeadRule, Kind, Machine, Pieces, State, Taken, cell_box, cell_of};
+use window_floor::BlockWindows;
 
 /// The decoder of the SNES's bit rate reduction (fullsnes, BRR samples).
 ///
@@ -59,7 +63,7 @@ impl Machine for Brr {
     }
 
     fn nearest(&self, head: u32, _pos: u32, from: State, target: i32) -> u32 {
-        nearest_code(head / 4, predict(head % 4, from.a, from.b), target)
+        codes_after(head, from, target).nearest()
     }
 
     fn take_nearest(&self, head: u32, _pos: u32, from: State, target: i32) -> Taken {
@@ -102,4 +106,14 @@ impl Machine for Brr {
     ghost lawful = { λ _. brr_is_machine };
 
     ghost boxed = { λ _. brr_is_boxed };
+}
+
+impl LinearMachine for Brr {
+    ghost linear = { λ _. brr_linear };
+
+    fn windows(&self, head: u32) -> BlockWindows {
+        windows(head)
+    }
+
+    ghost is_linear = { λ _. (brr_is_linear, refl) };
 }

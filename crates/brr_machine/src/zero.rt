@@ -1,14 +1,30 @@
-ghost use Rattle.std.specs.Prelude.{◌≡◌, ◌≤◌, ◌<◌, ℤ, List, length, All};
-ghost use Rattle.adpcm_nums.specs.Sample.{AreSamples};
+ghost use Rattle.std.specs.Prelude.{◌≡◌, ◌≤◌, ◌<◌, ℤ, pos, List, length, All};
+ghost use Rattle.adpcm_nums.specs.Sample.{IsSample, AreSamples};
 ghost use Rattle.machine_core.specs.Blocks.{Blocks, IsLegal, first_only};
 ghost use Rattle.machine_core.specs.Sums.{sum_of};
 ghost use Rattle.brr_machine.specs.Brr.{brr};
 ghost use Rattle.brr_machine.specs.Zero.{zero_head, nearest_codes, shift_sum, best_shift, zero_sum};
 
 use crate::block::BrrBlock;
-use crate::nearest::{nearest_code, predicted_cost};
+use crate::nearest::Codes;
+use linear_machine::CodeCosts;
 
-/// The nearest codes of sixteen targets under a shift, and their error. Filter 0 predicts 0.
+/// The codes of a shift under filter 0, which predicts 0.
+fn zero_codes(shift: u32, target: i32) -> Codes
+    requires shift { shift < 16 }
+    requires target { IsSample target }
+    ensures shift { result.shift ≡ shift }
+    ensures prediction { result.prediction ≡ pos 0 }
+    ensures target { result.target ≡ target }
+{
+    Codes {
+        shift,
+        prediction: 0,
+        target,
+    }
+}
+
+/// The nearest codes of sixteen targets under a shift, and their error.
 fn nearest_block(shift: u32, targets: &[i32; 16]) -> ([u8; 16], u64)
     requires shift { shift < 16 }
     requires targets { AreSamples targets.now }
@@ -19,9 +35,10 @@ fn nearest_block(shift: u32, targets: &[i32; 16]) -> ([u8; 16], u64)
     let mut codes = [0u8; 16];
     let mut sum = 0u64;
     for (i, target) in targets.iter().enumerate() {
-        let code = nearest_code(shift, 0, *target);
+        let found = zero_codes(shift, *target);
+        let code = found.nearest();
         codes[i] = code as u8;
-        sum += predicted_cost(shift, 0, *target, code);
+        sum += found.cost(code);
     }
     (codes, sum)
 }

@@ -16,7 +16,7 @@ use Rattle.window_floor.proofs.Quotients.{next-multiple, one-product}
 use Rattle.window_floor.proofs.NibbleLevels.{levels-by}
 use Rattle.spu_machine.specs.Spu.{acting_shift, sample_of}
 use Rattle.spu_machine.specs.Floors.{samples_under}
-use Rattle.spu_machine.specs.Laws.Outcomes.{sample-at}
+use Rattle.linear_machine.specs.Laws.Codes.{sample-at}
 
 -- a multiple's quotient
 exact : (v : ℤ) (p q : ℕ) → 0 < p → floor_of (v *ℤ pos (q * p)) p ≡ pos q *ℤ v
@@ -59,4 +59,4 @@ multiple shift c =
 
 pub levels_multiplied : (shift : ℕ) (step : ℤ) → step ≡ pos (2 ^ (12 - acting_shift shift)) → AreLevels step (negsuc 7) (pos 7) (samples_under shift)
 levels_multiplied shift step is =
-    levels-by step (samples_under shift) (λ i h. sample-at shift i (pos 0) h ∙ multiple shift i ∙ ap (λ z. z *ℤ nibble i) (sym is))
+    levels-by step (samples_under shift) (λ i h. sample-at (sample_of shift) i (pos 0) h ∙ multiple shift i ∙ ap (λ z. z *ℤ nibble i) (sym is))

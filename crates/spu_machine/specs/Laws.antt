@@ -5,18 +5,19 @@ pub mod Lanes
 pub mod Alike
 pub mod Ranges
 pub mod Outcomes
-pub mod FloorTruth
+pub mod Linear
 pub mod Rises
 pub mod Boxed
 use Rattle.std.proofs.Common.{◌≡◌, ℕ, ◌<◌, ◌≤◌, arith, refl, true, IsTrue}
 use Rattle.machine_core.specs.declared.state.HeadRule.{HeadRule}
 use Rattle.machine_core.specs.declared.state.HeadRule.TheVariants.{AnyHead, FilterZero}
 use Rattle.machine_core.specs.Rules.{IsMachine}
-use Rattle.spu_machine.specs.Spu.{allows_head}
+use Rattle.linear_machine.specs.Laws.Steps.{same-step}
+use Rattle.spu_machine.specs.Spu.{spu, output_of, allows_head}
 use Rattle.spu_machine.specs.SpuRules.{spu_rules}
-use Rattle.spu_machine.specs.Laws.FloorTruth.{spu-floor-below, spu-floor-fits}
-use Rattle.spu_machine.specs.Laws.Forgetting.{spu-forgets}
-use Rattle.spu_machine.specs.Laws.Lanes.{same-step}
+use Rattle.spu_machine.specs.Laws.Linear.{spu-floor-below, spu-floor-fits}
+use Rattle.spu_machine.specs.Laws.Forgetting.{spu-steps, spu-forgets}
+use Rattle.spu_machine.specs.Laws.Lanes.{same-output}
 use Rattle.spu_machine.specs.Laws.Alike.{same-floor}
 use Rattle.spu_machine.specs.Laws.Ranges.{step-fits, cost-small, all-hold}
 
@@ -36,7 +37,7 @@ spu_is_machine = record {
   steps = λ head p symbol at head_fits within symbol_fits is. step-fits head p symbol at is;
   costs_small = cost-small;
   forgets = spu-forgets;
-  lanes_alike = λ g h p q symbol at g_fits h_fits later after within same. same-step g h q symbol at same;
+  lanes_alike = λ g h p q symbol at g_fits h_fits later after within same. same-step spu output_of spu-steps g h q symbol at (same-output g h symbol at.a at.b same);
   lanes_stay = λ g h p g_fits h_fits later within same. same;
   floors_alike = λ g h p bx targets g_fits h_fits later within same. same-floor g h p targets same;
   floors = λ head p bx targets symbol at head_fits within count samples symbols_fit is_box is inside. spu-floor-below head p targets symbol at within symbols_fit;

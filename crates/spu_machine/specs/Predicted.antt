@@ -1,7 +1,8 @@
 -- What a code costs on top of a prediction.
-use Rattle.std.specs.Prelude.{ℕ, ℤ, pos, ◌+ℤ◌, ◌-ℤ◌, ◌*ℤ◌}
-use Rattle.adpcm_nums.specs.Nums.{clamp16_of, square_of}
+use Rattle.std.specs.Prelude.{ℕ, ℤ, ◌+ℤ◌}
+use Rattle.adpcm_nums.specs.Nums.{clamp16_of}
 use Rattle.adpcm_nums.specs.Least.{first_least}
+use Rattle.linear_machine.specs.Nearest.{code_cost}
 use Rattle.spu_machine.specs.Spu.{sample_of}
 
 -- the output
@@ -10,7 +11,7 @@ predicted_output shift prediction code = clamp16_of (sample_of shift code +ℤ p
 
 -- how far the output is from a target, squared
 unfoldable pub predicted_cost : ℕ → ℤ → ℤ → ℕ → ℕ
-predicted_cost shift prediction target code = square_of (pos 1 *ℤ predicted_output shift prediction code -ℤ target)
+predicted_cost shift prediction target code = code_cost 1 (predicted_output shift prediction) target code
 
 -- the first code of least cost
 unfoldable pub nearest_predicted : ℕ → ℤ → ℤ → ℕ

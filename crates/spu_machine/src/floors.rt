@@ -9,7 +9,7 @@ use crate::row::row;
 use window_floor::BlockWindows;
 
 /// The windows of a block under a head.
-fn windows(head: u32) -> BlockWindows
+pub(crate) fn windows(head: u32) -> BlockWindows
     requires { head < 80 }
     ensures samples { StandFor result (samples_under (shift_of head)) }
     ensures windows { windows_of result (samples_under (shift_of head)) ≡ spu_windows head }

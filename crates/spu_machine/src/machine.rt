@@ -1,17 +1,21 @@
+ghost use Rattle.std.proofs.Common.{refl};
 ghost use Rattle.spu_machine.specs.SpuRules.{spu_rules};
 ghost use Rattle.spu_machine.specs.Laws.{spu_is_machine};
+ghost use Rattle.spu_machine.specs.Floors.{spu_linear};
+ghost use Rattle.spu_machine.specs.Laws.Linear.{spu_is_linear};
 ghost use Rattle.spu_machine.specs.Laws.Boxed.{spu_is_boxed};
 
-use crate::filter::predict;
-use crate::floors::fill_floors;
+use crate::floors::{fill_floors, windows};
 use crate::image::image;
 use crate::least::{allows_head, least_floor};
-use crate::nearest::{nearest_code, output_cost};
+use crate::nearest::output_cost;
 use crate::sample::acting_shift;
 use crate::step::spu_output;
-use crate::taken::taken_from;
+use crate::taken::{codes_after, taken_from};
 use adpcm_nums::Span;
+use linear_machine::LinearMachine;
 use machine_core::{Bx, Cell, HeadRule, Kind, Machine, Pieces, State, Taken, cell_box, cell_of};
+use window_floor::BlockWindows;
 
 /// The decoder of the PlayStation's sound unit (PSX-SPX, SPU ADPCM samples).
 ///
@@ -60,7 +64,7 @@ impl Machine for Spu {
     }
 
     fn nearest(&self, head: u32, _pos: u32, from: State, target: i32) -> u32 {
-        nearest_code(head % 16, predict(head / 16, from.a, from.b), target)
+        codes_after(head, from, target).nearest()
     }
 
     fn take_nearest(&self, head: u32, _pos: u32, from: State, target: i32) -> Taken {
@@ -103,4 +107,14 @@ impl Machine for Spu {
     ghost lawful = { λ _. spu_is_machine };
 
     ghost boxed = { λ _. spu_is_boxed };
+}
+
+impl LinearMachine for Spu {
+    ghost linear = { λ _. spu_linear };
+
+    fn windows(&self, head: u32) -> BlockWindows {
+        windows(head)
+    }
+
+    ghost is_linear = { λ _. (spu_is_linear, refl) };
 }

@@ -3,8 +3,7 @@ use Rattle.std.proofs.Common.{◌≡◌, ℕ, ◌≤◌, arith, ap, ◌∙◌, s
 use Rattle.std.specs.Prelude.{ℤ, nat_lt, ◌+ℤ◌}
 use Rattle.std.proofs.lemmas.Bool.{cases_lt, le-ltb, cond-false}
 use Rattle.adpcm_nums.specs.Nums.{clamp16_of, wrap15_of}
-use Rattle.machine_core.specs.declared.state.State.{State}
-use Rattle.brr_machine.specs.Brr.{brr_step, output_of, raw_of, sample_of, prediction_of, shift_of, filter_of}
+use Rattle.brr_machine.specs.Brr.{output_of, raw_of, sample_of, prediction_of, shift_of, filter_of}
 use Rattle.brr_machine.specs.BrrRules.{lane_of}
 
 -- from shift 13 on the shift does not count
@@ -36,7 +35,3 @@ same-raw g h code o r e =
 pub same-output : (g h code : ℕ) (o r : ℤ) → lane_of g ≡ lane_of h → output_of g code o r ≡ output_of h code o r
 unfolding output_of
 same-output g h code o r e = ap (λ x. wrap15_of (clamp16_of x)) (same-raw g h code o r e)
-
-pub same-step : (g h place code : ℕ) (from : State) → lane_of g ≡ lane_of h → brr_step g place code from ≡ brr_step h place code from
-unfolding brr_step
-same-step g h place code from e = let mk : ℤ → State = λ y. record { a = y; b = from.a } in ap mk (same-output g h code from.a from.b e)

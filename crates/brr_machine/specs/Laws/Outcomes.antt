@@ -2,15 +2,17 @@
 use Rattle.std.proofs.Common.{◌≡◌, ℕ, zero, suc, ◌<◌, ◌≤◌, arith, ap, sym, subst, ◌∙◌, refl, inl, inr, Bool, true}
 use Rattle.std.specs.Prelude.{ℤ, pos, negsuc, ◌+ℤ◌, ◌-ℤ◌, ◌*ℤ◌, ◌≤ℤ◌, List, get_or}
 use Rattle.std.proofs.lemmas.Int.{ints}
-use Rattle.std.proofs.lemmas.List.FromFn.{get_or-map-range_with_len}
 use Rattle.adpcm_nums.specs.Nums.{clamp16_of, wrap15_of}
 use Rattle.adpcm_nums.proofs.OrderLaws.{le-or-gt}
 use Rattle.adpcm_nums.proofs.ClampLaws.{clamp-under, clamp-over, clamp-in}
 use Rattle.window_floor.specs.Row.{Row}
 use Rattle.window_floor.specs.Outcome.{IsWrap, none, up, down, IsOutcome, clamped_first, clamped_second, filtered}
+use Rattle.linear_machine.specs.Linear.{MayFollow}
+use Rattle.linear_machine.specs.Laws.Codes.{sample-at}
+use Rattle.linear_machine.specs.Laws.Outcomes.{zero-or-more, sample-follows}
 use Rattle.brr_machine.specs.Brr.{sample_of, prediction_of, raw_of, output_of, shift_of, filter_of}
 use Rattle.brr_machine.specs.Rows.{brr_row}
-use Rattle.brr_machine.specs.Floors.{samples_under}
+use Rattle.brr_machine.specs.Floors.{samples_under, brr_windows}
 use Rattle.brr_machine.specs.Laws.Samples.{sample_low, sample_high}
 use Rattle.brr_machine.specs.Laws.Equations.{rounds, filter-1, filter-2, filter-3}
 
@@ -45,10 +47,6 @@ ends raw =
       ]
     ]
 
-pub sample-at : (shift code : ℕ) → code < 16 → get_or (samples_under shift) code (pos 0) ≡ sample_of shift code
-unfolding samples_under
-sample-at shift code h = get_or-map-range_with_len (sample_of shift) 0 16 code code (pos 0) h (omega arith)
-
 -- raw is what a row's filter gives on top of a sample, less a rounding
 abbrev pub IsRounded : Row → ℤ → ℤ → ℤ → ℤ → Type 0
 IsRounded w sample o r raw = (e : ℕ) × (e ≤ w.errs) × ((w.d *ℤ raw) ≡ (w.d *ℤ sample +ℤ w.ca *ℤ o +ℤ w.cb *ℤ r +ℤ w.bias -ℤ pos e))
@@ -74,11 +72,11 @@ outcome w samples code o r raw y wraps h is (under e) = clamped_second e
 outcome w samples code o r raw y wraps h is (plain k t e) = filtered code is.0 k raw h is.1 (subst (λ (b : Bool). IsWrap b k) (sym wraps) t) is.2 e
 
 -- under filters 1 to 3
-pub output-tied : (head code : ℕ) (o r : ℤ) → code < 16 → 1 ≤ filter_of head
+output-tied : (head code : ℕ) (o r : ℤ) → code < 16 → 1 ≤ filter_of head
     → IsOutcome (brr_row (filter_of head)) (samples_under (shift_of head)) (negsuc 0) (pos 0) r o (output_of head code o r)
 unfolding output_of raw_of
 output-tied head code o r h some =
-    let sample = ap (λ z. z +ℤ prediction_of (filter_of head) o r) (sym (sample-at (shift_of head) code h)) in
+    let sample = ap (λ z. z +ℤ prediction_of (filter_of head) o r) (sym (sample-at (sample_of (shift_of head)) code (pos 0) h)) in
     outcome (brr_row (filter_of head)) (samples_under (shift_of head)) code o r _ _ (wrapping (filter_of head) some) h (rounded (filter_of head) _ o r _ some sample) (ends (raw_of head code o r))
 
 -- under filter 0 the outputs before do not count
@@ -96,3 +94,13 @@ unfolding output_of raw_of
 output-free head code o r h f =
     let raw : sample_of (shift_of head) code +ℤ prediction_of (filter_of head) o r ≡ sample_of (shift_of head) code = omega (arith, ints, no-prediction (filter_of head) o r f) in
     ap (λ x. wrap15_of (clamp16_of x)) raw ∙ no-change (sample_of (shift_of head) code) (sample_low (shift_of head) code h) (sample_high (shift_of head) code h)
+
+-- under every filter an output may come after the two before it
+pub output-follows : (head code : ℕ) (o r : ℤ) → code < 16 → MayFollow (brr_windows head) r o (output_of head code o r)
+output-follows head code o r h =
+    elim (zero-or-more (filter_of head)) [
+      | inl alone ↦
+          sample-follows (brr_windows head) code r o _ h (ap (λ f. (brr_row f).ca) alone) (ap (λ f. (brr_row f).cb) alone) (ap (λ f. (brr_row f).bias) alone)
+          (output-free head code o r h alone ∙ sym (sample-at (sample_of (shift_of head)) code (pos 0) h))
+      | inr some ↦ output-tied head code o r h some
+    ]

@@ -4,8 +4,7 @@ use Rattle.std.specs.Prelude.{ℤ, pos, ◌+ℤ◌, ◌*ℤ◌}
 use Rattle.std.proofs.lemmas.Bool.Decides.{nat_tests}
 use Rattle.adpcm_nums.specs.Nums.{floor_of, clamp16_of}
 use Rattle.adpcm_nums.specs.Nibbles.{nibble}
-use Rattle.machine_core.specs.declared.state.State.{State}
-use Rattle.spu_machine.specs.Spu.{spu_step, output_of, raw_of, sample_of, prediction_of, acting_shift, shift_of, filter_of, lane_of}
+use Rattle.spu_machine.specs.Spu.{output_of, raw_of, sample_of, prediction_of, acting_shift, shift_of, filter_of, lane_of}
 
 -- a shift acts as one of four bits
 acting-small : (shift : ℕ) → shift < 16 → acting_shift shift < 16
@@ -43,8 +42,3 @@ same-output g h code o r e =
     let sample : sample_of (shift_of g) code ≡ sample_of (shift_of h) code = same-sample _ _ code (same-shift g h e) in
     let prediction : prediction_of (filter_of g) o r ≡ prediction_of (filter_of h) o r = ap (λ z. prediction_of z o r) (same-filter g h e) in
     ap (λ x. clamp16_of (x +ℤ prediction_of (filter_of g) o r)) sample ∙ ap (λ y. clamp16_of (sample_of (shift_of h) code +ℤ y)) prediction
-
--- and so are the states after them
-pub same-step : (g h place code : ℕ) (from : State) → lane_of g ≡ lane_of h → spu_step g place code from ≡ spu_step h place code from
-unfolding spu_step
-same-step g h place code from e = let mk : ℤ → State = λ y. record { a = y; b = from.a } in ap mk (same-output g h code from.a from.b e)

@@ -2,7 +2,6 @@
 use Rattle.std.proofs.Common.{◌≡◌, ℕ, suc, ◌<◌, ◌≤◌, ◌^◌, arith, ap, sym, ◌∙◌, inl, inr, false, subst, ◌-◌}
 use Rattle.std.specs.Prelude.{ℤ, pos, negsuc, ◌+ℤ◌, ◌-ℤ◌, ◌*ℤ◌, ◌≤ℤ◌, unsigned_abs, List, get_or}
 use Rattle.std.proofs.lemmas.Int.{ints}
-use Rattle.std.proofs.lemmas.List.FromFn.{get_or-map-range_with_len}
 use Rattle.adpcm_nums.specs.Nums.{floor_of, clamp16_of}
 use Rattle.adpcm_nums.specs.Nibbles.{nibble}
 use Rattle.adpcm_nums.specs.Sample.{IsSample}
@@ -12,15 +11,13 @@ use Rattle.adpcm_nums.proofs.NibbleValues.{nibble-low, nibble-high}
 use Rattle.adpcm_nums.proofs.OrderLaws.{le-or-gt}
 use Rattle.adpcm_nums.proofs.ClampLaws.{clamp-under, clamp-over, clamp-in}
 use Rattle.window_floor.specs.Outcome.{none, IsOutcome, clamped_first, clamped_second, filtered}
+use Rattle.linear_machine.specs.Linear.{MayFollow}
+use Rattle.linear_machine.specs.Laws.Codes.{sample-at}
+use Rattle.linear_machine.specs.Laws.Outcomes.{zero-or-more, sample-follows}
 use Rattle.spu_machine.specs.Spu.{sample_of, acting_shift, prediction_of, last_weight, older_weight, raw_of, output_of, shift_of, filter_of}
 use Rattle.spu_machine.specs.Rows.{spu_row}
-use Rattle.spu_machine.specs.Floors.{samples_under}
+use Rattle.spu_machine.specs.Floors.{samples_under, spu_windows}
 use Rattle.spu_machine.specs.Laws.Forgetting.{predicts-nothing}
-
--- the sample of a code in the list
-pub sample-at : (shift code : ℕ) (d : ℤ) → code < 16 → get_or (samples_under shift) code d ≡ sample_of shift code
-unfolding samples_under
-sample-at shift code d h = get_or-map-range_with_len (sample_of shift) 0 16 code code d h (omega arith)
 
 -- a sample has 16 bits
 pub sample-fits : (shift code : ℕ) → code < 16 → IsSample (sample_of shift code)
@@ -65,12 +62,12 @@ some-filter : (n : ℕ) → 1 ≤ n → n ≡ suc (n - 1)
 some-filter n h = omega arith
 
 -- under filters 1 to 4
-pub output-tied : (head code : ℕ) (o r : ℤ) → code < 16 → 1 ≤ filter_of head
+output-tied : (head code : ℕ) (o r : ℤ) → code < 16 → 1 ≤ filter_of head
     → IsOutcome (spu_row (filter_of head)) (samples_under (shift_of head)) (pos 32767) (negsuc 32767) r o (output_of head code o r)
 unfolding output_of raw_of
 output-tied head code o r h some =
     let is = some-filter (filter_of head) some in
-    let at = outcome (filter_of head - 1) (samples_under (shift_of head)) code o r (sample_of (shift_of head) code) h (sym (sample-at (shift_of head) code (pos 0) h)) (ends _) in
+    let at = outcome (filter_of head - 1) (samples_under (shift_of head)) code o r (sample_of (shift_of head) code) h (sym (sample-at (sample_of (shift_of head)) code (pos 0) h)) (ends _) in
     subst (λ (n : ℕ). IsOutcome (spu_row n) (samples_under (shift_of head)) (pos 32767) (negsuc 32767) r o (clamp16_of (sample_of (shift_of head) code +ℤ prediction_of n o r))) (sym is) at
 
 -- under filter 0 an output is a sample
@@ -80,3 +77,13 @@ output-free head code o r h f =
     let raw : sample_of (shift_of head) code +ℤ prediction_of (filter_of head) o r ≡ sample_of (shift_of head) code = omega (arith, ints, predicts-nothing (filter_of head) o r f) in
     let fits = sample-fits (shift_of head) code h in
     ap clamp16_of raw ∙ clamp-in (sample_of (shift_of head) code) fits.low fits.high
+
+-- under every filter an output may come after the two before it
+pub output-follows : (head code : ℕ) (o r : ℤ) → code < 16 → MayFollow (spu_windows head) r o (output_of head code o r)
+output-follows head code o r h =
+    elim (zero-or-more (filter_of head)) [
+      | inl alone ↦
+          sample-follows (spu_windows head) code r o _ h (ap (λ f. (spu_row f).ca) alone) (ap (λ f. (spu_row f).cb) alone) (ap (λ f. (spu_row f).bias) alone)
+          (output-free head code o r h alone ∙ sym (sample-at (sample_of (shift_of head)) code (pos 0) h))
+      | inr some ↦ output-tied head code o r h some
+    ]

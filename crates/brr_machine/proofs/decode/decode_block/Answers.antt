@@ -7,7 +7,8 @@ use Rattle.brr_machine.specs.Brr.{brr, output_of}
 use Rattle.brr_machine.specs.Spelling.{head_in, code_in}
 use Rattle.brr_machine.specs.Laws.States.{last_bounds, state_in_range}
 use Rattle.machine_core.proofs.Runs.{run_more, outputs_more}
-use Rattle.brr_machine.proofs.Runs.{state_of, step_to}
+use Rattle.linear_machine.specs.Laws.Steps.{state_of, step-to}
+use Rattle.brr_machine.specs.Laws.Forgetting.{brr-steps}
 use Rattle.brr_machine.proofs.decode.decode_block.Goals as goal
 
 pub loop-place-preserved : goal.loop-place-preserved
@@ -24,7 +25,7 @@ loop-place-preserved c =
     ∙ ap (λ (k : ℕ). output_of (head_in bytes 0) k at.a at.b) (c.from.ensures ∙ c.code_at.ensures.value) in
     let next : state_of output at.a ≡ run brr (head_in bytes 0) (code_in bytes 0) c.args.from (c.loop-place.place + 1) =
     run_more brr (head_in bytes 0) (code_in bytes 0) c.args.from c.loop-place.place at (state_of output at.a) c.loop-place.invariant.state
-    (step_to (head_in bytes 0) c.loop-place.place (code_in bytes 0 c.loop-place.place) at output sounds) in
+    (step-to brr output_of brr-steps (head_in bytes 0) c.loop-place.place (code_in bytes 0 c.loop-place.place) at output sounds) in
     simp to_z-of_z (record {
       len = grind (arith, common_steps);
       outputs = outputs_more brr (head_in bytes 0) (code_in bytes 0) c.args.from c.loop-place.place (state_of output at.a) c.loop-place.outputs next within c.loop-place.invariant.outputs;

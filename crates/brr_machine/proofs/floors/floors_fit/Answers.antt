@@ -1,4 +1,4 @@
-use Rattle.brr_machine.specs.Laws.FloorTruth.{brr-floor-fits}
+use Rattle.brr_machine.specs.Laws.Linear.{brr-floor-fits}
 use Rattle.brr_machine.proofs.floors.floors_fit.Goals as goal
 
 pub returns : goal.returns

@@ -9,12 +9,11 @@ use Rattle.brr_machine.proofs.plain.nearest_plain.Goals as goal
 
 pub returns-clause-value : goal.returns-clause-value
 returns-clause-value c =
-    let target : SFits w32 c.args.target = c.ranges.target in
-    let prediction : SFits w64 c.args.prediction = c.ranges.prediction in
+    let codes = c.args.codes in
+    let target : SFits w32 codes.target = search rules in
+    let prediction : SFits w64 codes.prediction = search rules in
     let left : SFits w64 c.left_of.result = search rules in
-    let left_is = simp to_z-of_z at c.left_of.ensures in
     let below = simp to_z-of_z at c.nibbles_around-below.ensures.below in
-    let picked = simp to_z-of_z at c.nearer.ensures.value in
-    nearest-plain c.args.shift c.args.prediction c.args.target c.nibbles_around-below.result.0 c.nibbles_around-below.result.1 _ c.requires.plain
+    nearest-plain codes.shift codes.prediction codes.target c.nibbles_around-below.result.0 c.nibbles_around-below.result.1 _ c.requires
     c.nibbles_around-below.ensures.below_range c.nibbles_around-below.ensures.above_range
-    (below ∙ ap (λ z. within_of (negsuc 7) (pos 7) (floor_of z (2 ^ c.args.shift))) left_is) c.nibbles_around-below.ensures.above picked
+    (below ∙ ap (λ z. within_of (negsuc 7) (pos 7) (floor_of z (2 ^ codes.shift))) c.left_of.ensures) c.nibbles_around-below.ensures.above c.least_of_two.ensures.value

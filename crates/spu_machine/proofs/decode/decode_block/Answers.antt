@@ -6,7 +6,8 @@ use Rattle.machine_core.specs.Decoder.{run}
 use Rattle.spu_machine.specs.Spu.{spu, output_of}
 use Rattle.spu_machine.specs.Laws.States.{last_bounds, state_in_range}
 use Rattle.machine_core.proofs.Runs.{run_more, outputs_more}
-use Rattle.spu_machine.proofs.Runs.{state_of, step_to}
+use Rattle.linear_machine.specs.Laws.Steps.{state_of, step-to}
+use Rattle.spu_machine.specs.Laws.Forgetting.{spu-steps}
 use Rattle.spu_machine.proofs.decode.decode_block.Goals as goal
 
 pub loop-place-preserved : goal.loop-place-preserved
@@ -23,7 +24,7 @@ loop-place-preserved c =
     ∙ ap (λ (k : ℕ). output_of block.head k at.a at.b) c.from.ensures in
     let next : state_of output at.a ≡ run spu block.head code c.args.from (c.loop-place.place + 1) =
     run_more spu block.head code c.args.from c.loop-place.place at (state_of output at.a) c.loop-place.invariant.state
-    (step_to block.head c.loop-place.place (code c.loop-place.place) at output sounds) in
+    (step-to spu output_of spu-steps block.head c.loop-place.place (code c.loop-place.place) at output sounds) in
     simp to_z-of_z (record {
       len = grind (arith, common_steps);
       outputs = outputs_more spu block.head code c.args.from c.loop-place.place (state_of output at.a) c.loop-place.outputs next within c.loop-place.invariant.outputs;

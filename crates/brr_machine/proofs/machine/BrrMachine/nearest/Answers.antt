@@ -1,18 +1,21 @@
-use Rattle.std.proofs.Common.{rules, ap, ◌∙◌, w32, w64, ◌/◌}
+use Rattle.std.proofs.Common.{rules, arith, refl, ◌∙◌, ◌/◌, ◌%◌, w32}
 use mir.Val.{SFits}
 use Rattle.std.proofs.lemmas.Int.{to_z-of_z}
-use Rattle.brr_machine.specs.Predicted.{nearest_predicted}
-use Rattle.brr_machine.proofs.Predictions.{nearest-is}
+use Rattle.linear_machine.proofs.Predictions.{ap-three, nearest-is}
+use Rattle.brr_machine.specs.Brr.{prediction_of, raw_of, output_of}
+use Rattle.brr_machine.specs.Predicted.{predicted_output, predicted_cost, nearest_predicted}
+use Rattle.brr_machine.specs.Floors.{brr_linear}
+use Rattle.brr_machine.specs.Laws.Linear.{brr_is_linear}
 use Rattle.brr_machine.proofs.machine.BrrMachine.nearest.Goals as goal
 
 pub returns : goal.returns
+unfolding nearest_predicted predicted_cost predicted_output raw_of output_of
 returns c =
-    let predicted : SFits w64 c.predict.result = search rules in
     let target : SFits w32 c.args.target = c.ranges.target in
     let last : SFits w32 c.args.from.a = search rules in
     let older : SFits w32 c.args.from.b = search rules in
-    let value = simp to_z-of_z at c.nearest_code.ensures.value in
-    let prediction = simp to_z-of_z at c.predict.ensures.value in
-    value
-    ∙ ap (λ p. nearest_predicted (c.args.head / 4) p c.args.target) prediction
-    ∙ nearest-is c.args.head c.args._pos c.args.from c.args.target
+    let is = c.codes_after.ensures in
+    let sound = predicted_output (c.args.head / 4) (prediction_of (c.args.head % 4) c.args.from.a c.args.from.b) in
+    c.nearest.ensures.value
+    ∙ ap-three nearest_predicted _ _ _ _ _ _ is.shift is.prediction (simp to_z-of_z at is.target)
+    ∙ nearest-is brr_linear brr_is_linear c.args.head c.args._pos c.args.from c.args.target sound (omega arith) (λ code. refl)

@@ -1,8 +1,0 @@
-use Rattle.std.proofs.Common.{◌≡◌, ℕ, ◌<◌, get_or, length}
-use Rattle.bank_kinds.proofs.brr.codes_of.Given as goal
-
-abbrev pub invariant-loop-place : goal.invariant-loop-place
-invariant-loop-place l = record {
-  count : length l.codes ≡ 16;
-  filled : (k : ℕ) → k < l.place → get_or l.codes k 0 ≡ get_or l.symbols k 0;
-}

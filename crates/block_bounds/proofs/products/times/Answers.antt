@@ -1,0 +1,17 @@
+use Rattle.std.proofs.Common.{arith, w64, ◌≡◌, to_z, of_z}
+use Rattle.std.proofs.lemmas.Int.{ints}
+use Rattle.row_bound.proofs.Sizes.{product-is}
+use Rattle.block_bounds.proofs.Sizes.{times-size}
+use Rattle.block_bounds.proofs.products.times.Goals as goal
+
+pub returns-clause-value : goal.returns-clause-value
+returns-clause-value c =
+    let x : to_z w64 (of_z w64 c.args.x) ≡ c.args.x = omega (arith, ints) in
+    let t : to_z w64 (of_z w64 c.from.result) ≡ c.args.t = omega (arith, ints) in
+    product-is c.args.x c.args.t _ _ x t (omega (arith, times-size c.args.x c.args.t c.requires.x_low c.requires.x_high c.requires.t))
+
+pub returns-clause-low : goal.returns-clause-low
+returns-clause-low c = omega (arith, ints, returns-clause-value c, times-size c.args.x c.args.t c.requires.x_low c.requires.x_high c.requires.t)
+
+pub returns-clause-high : goal.returns-clause-high
+returns-clause-high c = omega (arith, ints, returns-clause-value c, times-size c.args.x c.args.t c.requires.x_low c.requires.x_high c.requires.t)

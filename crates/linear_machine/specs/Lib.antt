@@ -1,0 +1,4 @@
+pub mod Linear
+pub mod Samples
+pub mod Nearest
+pub mod Laws

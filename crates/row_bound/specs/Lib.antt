@@ -1,0 +1,8 @@
+pub mod Ranges
+pub mod Rows
+pub mod Paths
+pub mod Bound
+pub mod Guards
+pub mod Ladder
+pub mod Windows
+pub mod Flat

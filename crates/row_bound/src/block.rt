@@ -1,0 +1,167 @@
+ghost use Rattle.std.specs.Prelude.{◌≡◌, ◌≤◌, ◌+◌, ◌*◌, ◌^◌, ℕ, ℤ, [], length, drop, get_or};
+ghost use Rattle.adpcm_nums.specs.Nums.{square_of};
+ghost use Rattle.row_bound.specs.Paths.{Path, Owes};
+ghost use Rattle.row_bound.specs.Ladder.{IsLadder};
+
+use crate::advice::{Advice, NONE, quotient, times};
+use crate::layer::Layer;
+use crate::row::Row;
+use crate::search::Effort;
+use crate::suffix::{open, root};
+use crate::table::table_of;
+
+/// How many errors before a place the rows of a block ask for: it says which suffix a search is charged to.
+fn taps_of(layers: &[Layer]) -> usize
+    ensures { result ≤ 2 }
+{
+    let mut taps = 0;
+    for layer in layers {
+        if layer.base.b != 0 {
+            return 2;
+        }
+        if layer.base.a != 0 {
+            taps = 1;
+        }
+    }
+    taps
+}
+
+/// What is added to each pivot: the wider an interval is against the distance of two steps, the smaller factors are kept.
+fn ease_of(layers: &[Layer], steps: &[i64]) -> i64 {
+    let n = steps.len();
+    if layers.is_empty() || n < 2 {
+        return 0;
+    }
+    let base = layers[0].base;
+    let width = base.high.wrapping_sub(base.low);
+    let step = steps[n - 1].wrapping_sub(steps[n - 2]).max(1);
+    quotient(
+        times(40, times(width, times(base.d, base.d))),
+        times(3, step),
+    )
+}
+
+/// A bound under every path of the layers, with the two errors that it starts from, weighed alike.
+fn whole(
+    layers: &[Layer],
+    steps: &[i64],
+    floors: &[u64],
+    prefix: &mut [Row],
+    trail: &mut [Advice],
+    entering: u64,
+    top: u64,
+    effort: Effort,
+) -> u64
+    requires prefix { length prefix.old ≡ 28 }
+    requires trail { length trail.old ≡ 28 }
+    requires layers { length layers.now ≤ 28 }
+    requires ladder { IsLadder steps.now }
+    requires floors { length floors.now ≡ 29 }
+    requires small { (i : ℕ) → i ≤ length layers.now → get_or floors.now i 0 ≤ 2 ^ 48 }
+    requires owed { (i : ℕ) → i ≤ length layers.now → Owes steps.now (drop i layers.now) (get_or floors.now i 0) }
+    requires low { 1 ≤ entering }
+    requires high { entering ≤ 2 }
+    ensures most { result ≤ top }
+    ensures owes { (y x : ℤ) (c : ℕ) → Path steps.now [] layers.now x y c → result ≤ entering * square_of y + entering * square_of x + c }
+{
+    let at = open(entering);
+    let rest = &floors[0..layers.len() + 1];
+    root(layers, steps, rest, prefix, trail, at, at, top, effort)
+}
+
+/// A bound under every path of a block's layers, at most `top`: the two errors that it starts from are weighed by
+/// `entering`. Each search goes on with at most `nodes` rows.
+pub fn block_bound(layers: &[Layer], steps: &[i64], entering: u64, top: u64, nodes: u64) -> u64
+    requires layers { length layers.now ≤ 28 }
+    requires ladder { IsLadder steps.now }
+    requires entering { entering ≤ 2 }
+    requires top { top ≤ 2 ^ 48 }
+    ensures most { result ≤ top }
+    ensures owes { (y x : ℤ) (c : ℕ) → Path steps.now [] layers.now x y c → result ≤ entering * square_of y + entering * square_of x + c }
+{
+    let mut prefix = [open(1); 28];
+    let mut trail = [NONE; 28];
+    let taps = taps_of(layers);
+    let ease = ease_of(layers, steps);
+    let effort = Effort {
+        nodes: if taps == 0 { 0 } else { nodes },
+        goal: 0,
+        ease,
+    };
+    let floors = table_of(layers, steps, &mut prefix, &mut trail, taps, top, effort);
+    let low = floors[0].min(top);
+    if entering == 0 || taps == 0 || low == top {
+        return low;
+    }
+    let aimed = Effort {
+        nodes,
+        goal: low,
+        ease,
+    };
+    let found = whole(
+        layers,
+        steps,
+        &floors,
+        &mut prefix,
+        &mut trail,
+        entering,
+        top,
+        aimed,
+    );
+    low.max(found)
+}
+
+#[cfg(test)]
+mod tests {
+    use super::block_bound;
+    use crate::layer::Layer;
+    use crate::row::Row;
+
+    /// By hand: of `2 z - x = 10`, the least of `x² + 2 z²` is `100 / (4 / 2 + 1 / 1)`, so whole numbers cost at least 34, and
+    /// z = 3 with x = -4 does. Where 0 is in the interval, nothing costs anything.
+    #[test]
+    fn small(rt: HostRuntime) {
+        let ten = Row {
+            d: 2,
+            a: 1,
+            b: 0,
+            low: 10,
+            high: 10,
+            weight: 2,
+            known: false,
+            out: 0,
+        };
+        let zero = Row {
+            d: 2,
+            a: 1,
+            b: 0,
+            low: -5,
+            high: 5,
+            weight: 2,
+            known: false,
+            out: 0,
+        };
+        let nine = Row {
+            d: 0,
+            a: 0,
+            b: 0,
+            low: 0,
+            high: 0,
+            weight: 2,
+            known: true,
+            out: 9,
+        };
+        let one = [Layer {
+            base: ten,
+            first: nine,
+            second: nine,
+        }];
+        let nothing = Layer {
+            base: zero,
+            first: nine,
+            second: nine,
+        };
+        assert_eq!(rt; block_bound(&one, &[0], 1, 1000, 10), 34);
+        assert_eq!(rt; block_bound(&[nothing; 3], &[0, 3], 1, 1000, 10), 0);
+    }
+}

@@ -1,0 +1,119 @@
+ghost use Rattle.std.specs.Prelude.{◌≡◌, ◌≤◌, ◌<◌, ◌+◌, ◌^◌, ℕ, List, ◌++◌, ◌∷◌, [], length, take, drop, get_or, false};
+ghost use Rattle.row_bound.specs.declared.row.Row.{Row};
+ghost use Rattle.row_bound.specs.Paths.{Owes, OwesFrom};
+ghost use Rattle.row_bound.specs.Ladder.{IsLadder};
+
+use crate::advice::{Advice, advised, settled, tied};
+use crate::layer::Layer;
+use crate::pick::{begun, closed, is_open, next_side, row_at, widened};
+use crate::probe::judged;
+use crate::row::Row;
+
+/// How far a search may go. Nothing that it proves rests on these numbers.
+#[derive(Clone, Copy, Debug, PartialEq, Eq)]
+pub(crate) struct Effort {
+    /// How many rows may still be gone on with.
+    pub nodes: u64,
+    /// A bound that is known already: below it nothing is gained.
+    pub goal: u64,
+    /// What is added to each pivot, in 16ths, so that factors stay small where intervals are wide.
+    pub ease: i64,
+}
+
+/// Puts a row behind the first `k`.
+fn put_row(prefix: &mut [Row], k: usize, row: Row)
+    requires { k < length prefix.old }
+    ensures more { take (k + 1) prefix.new ≡ take k prefix.old ++ (row ∷ []) }
+    ensures kept { take k prefix.new ≡ take k prefix.old }
+{
+    prefix[k] = row;
+}
+
+/// The least cost of the paths that begin with the first `k` rows of `prefix` and go on with one row of each layer from `k`
+/// on, or `top` where that is less, or a bound under it where the nodes are used up. Depth first: at each layer the rows
+/// nearest to what is expected come first.
+pub(crate) fn search(
+    layers: &[Layer],
+    steps: &[i64],
+    floors: &[u64],
+    prefix: &mut [Row],
+    trail: &mut [Advice],
+    k: usize,
+    v: Row,
+    u: Row,
+    top: u64,
+    effort: &mut Effort,
+) -> u64
+    requires v { v.known ≡ false }
+    requires u { u.known ≡ false }
+    requires k { k < length layers.now }
+    requires prefix { length prefix.old ≡ 28 }
+    requires trail { length trail.old ≡ 28 }
+    requires layers { length layers.now ≤ 28 }
+    requires ladder { IsLadder steps.now }
+    requires floors { length floors.now ≡ length layers.now + 1 }
+    requires small { (i : ℕ) → i ≤ length layers.now → get_or floors.now i 0 ≤ 2 ^ 48 }
+    requires owed { (i : ℕ) → i ≤ length layers.now → Owes steps.now (drop i layers.now) (get_or floors.now i 0) }
+    ensures kept { take k prefix.new ≡ take k prefix.old }
+    ensures most { result ≤ top }
+    ensures owes { OwesFrom steps.now v u (take k prefix.old) (drop k layers.now) result }
+{
+    let layer = layers[k];
+    let rest = floors[k + 1];
+    let tie = tied(layer.base, &prefix[..k], &trail[..k], v, u, effort.ease);
+    let mut done = begun(steps, tie.push);
+    let mut found = top;
+    while is_open(done, steps.len()) {
+        let side = next_side(steps, done, tie.push);
+        let row = row_at(layer, steps, done, side);
+        put_row(prefix, k, row);
+        trail[k] = advised(
+            row,
+            layer.base,
+            tie,
+            &prefix[..k],
+            &trail[..k],
+            v,
+            u,
+            effort.ease,
+        );
+        let ends = k + 1 == layers.len() || effort.nodes == 0;
+        let verdict = judged(
+            &prefix[..k + 1],
+            &trail[..k + 1],
+            v,
+            u,
+            row,
+            rest,
+            found,
+            ends,
+        );
+        if verdict.floor >= found {
+            done = closed(done, side, verdict.rises, steps.len());
+        } else {
+            if ends {
+                found = verdict.floor;
+            } else {
+                effort.nodes = effort.nodes.saturating_sub(1);
+                trail[k] = settled(row, trail[k]);
+                found = search(
+                    layers,
+                    steps,
+                    floors,
+                    prefix,
+                    trail,
+                    k + 1,
+                    v,
+                    u,
+                    found,
+                    effort,
+                );
+                if found <= effort.goal {
+                    effort.nodes = 0;
+                }
+            }
+            done = widened(done, side, steps.len());
+        }
+    }
+    found
+}

@@ -1,4 +1,7 @@
+pub mod LeastMore
 pub mod Later
 pub mod Rows
-pub mod Alike
 pub mod Steps
+pub mod Looks
+pub mod Alike
+pub mod Capped

@@ -1,16 +1,34 @@
-ghost use Rattle.std.specs.Prelude.{◌≡◌, ◌<◌, ◌≤◌, ◌+◌, ◌*◌, ◌^◌, ℕ, IsTrue, length, min};
-ghost use Rattle.machine_core.specs.Floors.{head_floor, floor_in, block_floor, rest, block_targets, top};
+ghost use Rattle.std.specs.Prelude.{◌≡◌, ◌<◌, ◌≤◌, ◌+◌, ◌*◌, ◌^◌, ℕ, IsTrue, false, length, min};
+ghost use Rattle.machine_core.specs.Floors.{floor_in, block_floor, rest, block_targets, top};
 ghost use Rattle.adpcm_nums.specs.Sample.{AreSamples};
-ghost use Rattle.block_steps.specs.Tables.{IsSpot, HoldFirst, HoldRows, HoldLater, row};
+ghost use Rattle.block_steps.specs.Plans.{IsNext, IsPlan};
+ghost use Rattle.block_steps.specs.Tables.{IsSpot, IsLeader, HoldFirst, HoldRows, HoldLater, row};
 ghost use Rattle.machine_core.specs.Blocks.{first_only};
 
+use crate::plan::Plan;
 use crate::spots::Spot;
-use crate::stepping::{takes, targets_in};
+use crate::stepping::{lane_head, targets_in};
 use machine_core::{Bx, Machine, rule_at};
 
-/// Fills in a head's row.
+/// Whether a head is the first of its lane behind a block's first place.
+fn leads<M: Machine>(machine: &M, head: u32) -> bool
+    requires head { head < (M.rules machine.now).decoder.heads }
+    requires places { 1 < (M.rules machine.now).decoder.samples }
+    ensures { result ≡ false → IsLeader (M.rules machine.now) head → ⊥ }
+{
+    let lane = machine.lane(head, 1);
+    for h in 0..head {
+        if machine.lane(h, 1) == lane {
+            return false;
+        }
+    }
+    true
+}
+
+/// Fills in a head's row, where it leads its lane.
 fn fill_row<M: Machine>(machine: &M, targets: &[i32], rows: &mut [u64], head: u32, len: u32)
     requires targets { length targets.now ≡ (M.rules machine.now).decoder.samples }
+    requires places { 1 < (M.rules machine.now).decoder.samples }
     requires range { AreSamples targets.now }
     requires len { len ≡ (M.rules machine.now).floor_len }
     requires head { head < (M.rules machine.now).decoder.heads }
@@ -19,11 +37,13 @@ fn fill_row<M: Machine>(machine: &M, targets: &[i32], rows: &mut [u64], head: u3
     requires filled { HoldFirst (M.rules machine.now) targets.now rows.old head }
     ensures { HoldFirst (M.rules machine.now) targets.now rows.new (head + 1) }
 {
-    let from = head as usize * len as usize;
-    machine.fill_floor(head, targets, &mut rows[from..from + len as usize]);
+    if leads(machine, head) {
+        let from = head as usize * len as usize;
+        machine.fill_floor(head, targets, &mut rows[from..from + len as usize]);
+    }
 }
 
-/// Fills in a row for each head.
+/// Fills in a row for each head that leads its lane; a block of one place needs none.
 pub fn fill_rows<M: Machine>(machine: &M, targets: &[i32], rows: &mut [u64])
     requires targets { length targets.now ≡ (M.rules machine.now).decoder.samples }
     requires range { AreSamples targets.now }
@@ -31,9 +51,36 @@ pub fn fill_rows<M: Machine>(machine: &M, targets: &[i32], rows: &mut [u64])
     requires small { (M.rules machine.now).decoder.heads * (M.rules machine.now).floor_len < 2 ^ 31 }
     ensures { HoldRows (M.rules machine.now) targets.now rows.new }
 {
+    if machine.block_samples() < 2 {
+        return;
+    }
     let len = machine.floor_len();
     for h in 0..machine.heads() {
         fill_row(machine, targets, rows, h, len);
+    }
+}
+
+/// Fills in the rows of a block, where they are not those of this block.
+pub fn refill<M: Machine>(
+    machine: &M,
+    targets: &[i32],
+    blocks: u32,
+    block: u32,
+    filled: u32,
+    rows: &mut [u64],
+)
+    requires count { length targets.now ≡ blocks * (M.rules machine.now).decoder.samples }
+    requires block { block < blocks }
+    requires range { AreSamples targets.now }
+    requires small { blocks * (M.rules machine.now).decoder.samples < 2 ^ 31 }
+    requires room { (M.rules machine.now).decoder.heads * (M.rules machine.now).floor_len < 2 ^ 31 }
+    requires rows { length rows.old ≡ (M.rules machine.now).decoder.heads * (M.rules machine.now).floor_len }
+    requires filled { filled < blocks → HoldRows (M.rules machine.now) (block_targets (M.rules machine.now) targets.now filled) rows.old }
+    ensures { HoldRows (M.rules machine.now) (block_targets (M.rules machine.now) targets.now block) rows.new }
+{
+    if block != filled {
+        let samples = machine.block_samples();
+        fill_rows(machine, targets_in(targets, samples, blocks, block), rows);
     }
 }
 
@@ -47,31 +94,6 @@ fn row_of(rows: &[u64], heads: u32, len: u32, head: u32) -> &[u64]
 {
     let from = head as usize * len as usize;
     &rows[from..from + len as usize]
-}
-
-/// The floor under the rest of a sample's block, under a head, or the greatest number where it may not be taken.
-fn floor_under<M: Machine>(
-    machine: &M,
-    targets: &[i32],
-    rows: &[u64],
-    at: Spot,
-    lane: u32,
-    bx: Bx,
-    head: u32,
-) -> u64
-    requires at { IsSpot (M.rules machine.now) at }
-    requires rows { HoldRows (M.rules machine.now) (block_targets (M.rules machine.now) targets.now at.block) rows.now }
-    requires room { (M.rules machine.now).decoder.heads * (M.rules machine.now).floor_len < 2 ^ 31 }
-    requires bx { IsTrue ((M.rules machine.now).is_box at.place bx) }
-    requires head { head < (M.rules machine.now).decoder.heads }
-    ensures { result ≡ head_floor (M.rules machine.now) first_only targets.now at.index lane bx head }
-{
-    if takes(machine, at, lane, head) {
-        let row = row_of(rows, machine.heads(), machine.floor_len(), head);
-        machine.floor_at(head, at.place, bx, row)
-    } else {
-        u64::MAX
-    }
 }
 
 /// The floor under the rest of a sample's block, behind the block's first sample: heads of one lane have one floor, so the first one tells.
@@ -90,12 +112,13 @@ fn rest_one<M: Machine>(
     requires bx { IsTrue ((M.rules machine.now).is_box at.place bx) }
     ensures { result ≡ floor_in (M.rules machine.now) first_only targets.now at.index lane bx }
 {
-    for h in 0..machine.heads() {
-        if takes(machine, at, lane, h) {
-            return floor_under(machine, targets, rows, at, lane, bx, h);
+    match lane_head(machine, at, lane) {
+        Some(head) => {
+            let row = row_of(rows, machine.heads(), machine.floor_len(), head);
+            machine.floor_at(head, at.place, bx, row)
         }
+        None => u64::MAX,
     }
-    u64::MAX
 }
 
 /// What is under all that comes from a sample on.
@@ -122,6 +145,25 @@ pub fn rest_of<M: Machine>(
     } else {
         rest_one(machine, targets, rows, at, lane, bx).saturating_add(later[at.block as usize + 1])
     }
+}
+
+/// The same, by what a plan has.
+pub fn rest_at<M: Machine>(machine: &M, plan: &Plan<'_>, at: Spot, lane: u32, bx: Bx) -> u64
+    requires plan { IsPlan (M.rules machine.now) plan.now }
+    requires at { IsNext (M.rules machine.now) plan.now at }
+    requires bx { IsTrue ((M.rules machine.now).is_box at.place bx) }
+    ensures { result ≡ min top (rest (M.rules machine.now) first_only plan.now.targets.now plan.now.blocks at.index lane bx) }
+{
+    rest_of(
+        machine,
+        plan.targets,
+        plan.blocks,
+        plan.rows,
+        plan.later,
+        at,
+        lane,
+        bx,
+    )
 }
 
 /// The floor of a block.

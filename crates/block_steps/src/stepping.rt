@@ -85,6 +85,7 @@ pub fn targets_in(targets: &[i32], samples: u32, blocks: u32, block: u32) -> &[i
 pub fn lane_head<M: Machine>(machine: &M, at: Spot, lane: u32) -> Option<u32>
     requires at { IsSpot (M.rules machine.now) at }
     ensures some { IfSome result (λ h. (h < (M.rules machine.now).decoder.heads) × (may_take (M.rules machine.now) first_only at.index lane h ≡ true)) }
+    ensures first { IfSome result (λ h. (k : ℕ) → k < h → may_take (M.rules machine.now) first_only at.index lane k ≡ false) }
     ensures none { result ≡ None → (k : ℕ) → k < (M.rules machine.now).decoder.heads → may_take (M.rules machine.now) first_only at.index lane k ≡ false }
 {
     for h in 0..machine.heads() {

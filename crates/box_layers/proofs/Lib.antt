@@ -4,5 +4,6 @@ pub mod Bounds
 pub mod Pairs
 pub mod Seeing
 pub mod LeastPieces
+pub mod Placed
 pub mod Sound
 pub mod Looks

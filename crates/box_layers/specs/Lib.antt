@@ -4,3 +4,4 @@ pub mod Bound
 pub mod Pairs
 pub mod Looking
 pub mod Certificates
+pub mod Layers

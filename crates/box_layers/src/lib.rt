@@ -8,6 +8,7 @@ mod cell_value;
 mod key;
 mod laws;
 mod layer;
+mod layers;
 mod looking;
 mod order;
 
@@ -16,5 +17,6 @@ pub use cell_value::CellValue;
 pub use key::{Key, is_key_before, is_key_same};
 pub use laws::{accepted_values_hold, looks_are_least};
 pub use layer::Layer;
+pub use layers::Layers;
 pub use looking::{Seen, look, see_box};
 pub use order::{is_before, is_same};

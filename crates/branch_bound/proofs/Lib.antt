@@ -1,6 +1,5 @@
 pub mod Capped
-pub mod Alike
-pub mod Look
+pub mod NextLane
 pub mod Values
 pub mod Sound
 pub mod Above

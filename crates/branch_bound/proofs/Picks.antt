@@ -14,7 +14,7 @@ use Rattle.machine_core.specs.Blocks.{rule_of}
 use Rattle.std.proofs.Common.{◌/◌, ◌+◌, ◌-◌, min, false}
 use Rattle.std.proofs.lemmas.Bool.Decides.{nat_tests}
 use Rattle.std.proofs.lemmas.Bool.{cond-true, cond-false}
-use Rattle.branch_bound.proofs.Alike.{found-one}
+use Rattle.block_steps.proofs.Alike.{found-one}
 
 pub never-found : (n : ℕ) (f : ℕ → ℕ) (left : ℕ) → least n f top ≡ left → left < top → ((k : ℕ) → k < n → f k ≢ left) → ⊥
 never-found n f left e small none = elim (least-reached n f top) [ inl t ↦ omega arith | inr w ↦ none w.0 w.1 (sym w.2 ∙ e) ]

@@ -21,14 +21,15 @@ use Rattle.bound_cert.specs.Good.{LayersFit}
 use Rattle.bound_cert.specs.Grammar.{limits_of}
 use Rattle.bound_cert.specs.Ranges.{key_fits, lane_fits, is_level_byte}
 use Rattle.bound_cert.specs.Spelling.{IsWritable}
-use Rattle.cert_check.specs.Layers.{certificate_of, cells_for, key_for, listed_in as listed_there}
+use Rattle.block_steps.specs.Ways.{key_for}
+use Rattle.cert_check.specs.Layers.{certificate_of, cells_for, listed_in as listed_there}
 use Rattle.open_cells.specs.declared.node.Node.{Node}
 use Rattle.open_cells.specs.Counts.{nodes_at, count_of}
 use Rattle.open_cells.specs.Nodes.{listed_in, Fits}
 use Rattle.open_cells.specs.Paths.{HasLaws, Opens}
 use Rattle.open_cells.proofs.Look.{listed-some}
 use Rattle.branch_bound.specs.declared.levels.LevelCert.{LevelCert}
-use Rattle.branch_bound.specs.Keyed.{key_at, cell_of_node, joined, cut, keyed, cell_total}
+use Rattle.branch_bound.specs.Keyed.{key_at, cell_of_node, joined, cut, keyed, cell_total, stored_as}
 use Rattle.branch_bound.specs.Lists.{IsShown, level_certificate}
 use Rattle.branch_bound.specs.Searched.{IsLevel}
 use Rattle.branch_bound.proofs.Filing.{AreFileable, keyed-filed}
@@ -40,7 +41,7 @@ use Rattle.machine_core.specs.Rules.{IsMachine}
 use Rattle.machine_core.proofs.States.{sum-small}
 use Rattle.box_layers.specs.Certificates.{IsAccepted, value}
 use Rattle.open_cells.specs.Paths.{FitTargets}
-use Rattle.branch_bound.specs.Searched.{IsSearched, IsChoice, blocks_of}
+use Rattle.branch_bound.specs.Searched.{IsSearched, IsChoice, IsStored, blocks_of}
 
 first-fits : (p lane : ℕ) (other : Bool) → p ≡ 0 → lane ≡ 65535 → cond (nat_eq p 0) (nat_eq lane 65535) other ≡ true
 first-fits p lane other h e = grind (arith, nat_tests)
@@ -210,34 +211,22 @@ writable m laws targets blocks most share c s level small few blocks_few bound =
       sorted = filed.sorted;
     }
 
-abbrev pub plain_of : LevelCert → List Layer → Plain
-plain_of c layers = record { blocks = c.blocks; level = c.level; bound = c.bound; layers = layers }
-
--- what a search shows, as it is stored
-pub record IsFiledAs (m : Rules) (targets : List ℤ) (blocks most share : ℕ) (c : LevelCert) (p : Plain) : Type 0 where
-  pub is : p ≡ plain_of c (keyed m.decoder.samples 0 c.layers.items)
-  pub writable : IsWritable m.kind m.decoder.samples p
-  pub few_cells : cell_total p.layers ≤ share
-  pub searched : p.level ≢ 255 → IsSearched m targets most (certificate_of m p.layers p.level p.blocks)
-  pub accepted : IsAccepted m targets (certificate_of m p.layers p.level p.blocks)
-  pub bound : p.bound ≡ value m targets (certificate_of m p.layers p.level p.blocks)
-
-pub filed-as : (m : Rules) → HasLaws m → (targets : List ℤ) (blocks most share : ℕ) (c : LevelCert) (p : Plain) → IsShown m targets blocks most share c → IsLevel m targets blocks most share c.level → most < 1152921504606846976 → share < 2 ^ 32 → blocks < 65536 → c.bound < 2 ^ 64
-    → p ≡ plain_of c (keyed m.decoder.samples 0 c.layers.items) → IsFiledAs m targets blocks most share c p
-filed-as m laws targets blocks most share c p s level small few blocks_few bound e =
-    let layers = keyed m.decoder.samples 0 c.layers.items in
-    let same = sym (filed-same m laws targets blocks most share c s level small few) in
-    subst (λ (z : Plain). IsFiledAs m targets blocks most share c z) (sym e) (record {
-      is = refl;
-      writable = writable m laws targets blocks most share c s level small few blocks_few bound;
-      few_cells = total-few m targets blocks most share c s;
-      searched = λ ne. subst (λ (z : Certificate). IsSearched m targets most z) same (s.searched ne);
-      accepted = subst (λ (z : Certificate). IsAccepted m targets z) same s.cert.accepted;
-      bound = s.cert.bound ∙ ap (value m targets) same;
-    })
-
 -- the error of a list of so few samples is small
-pub sum-fits : (m : Rules) → IsMachine m → (targets : List ℤ) (blocks : ℕ) (c : Choice) → FitTargets m blocks targets → length targets ≤ 262144 → IsChoice m blocks targets c → c.sum < 1152921504606846976
+sum-fits : (m : Rules) → IsMachine m → (targets : List ℤ) (blocks : ℕ) (c : Choice) → FitTargets m blocks targets → length targets ≤ 262144 → IsChoice m blocks targets c → c.sum < 1152921504606846976
 sum-fits m laws targets blocks c fit few choice =
     let s = sum-small m laws blocks (blocks_of c) targets choice.legal.in_range fit.count fit.range start laws.start_fits 0 (blocks * m.decoder.samples) (omega arith) in
     let e = choice.sum in let n = fit.count in omega arith
+
+-- so what a search shows can be stored
+pub stored-of : (m : Rules) → HasLaws m → (targets : List ℤ) (blocks : ℕ) (best : Choice) (share : ℕ) (c : LevelCert) (p : Plain) → FitTargets m blocks targets → length targets ≤ 262144 → IsChoice m blocks targets best
+    → IsShown m targets blocks best.sum share c → IsLevel m targets blocks best.sum share c.level → share < 2 ^ 32 → blocks < 65536 → c.bound < 2 ^ 64 → p ≡ stored_as m.decoder.samples c → IsStored m targets best.sum share p
+stored-of m laws targets blocks best share c p fit short choice s level few blocks_few bound e =
+    let small = sum-fits m laws.machine targets blocks best fit short choice in
+    let same = sym (filed-same m laws targets blocks best.sum share c s level small few) in
+    subst (λ (z : Plain). IsStored m targets best.sum share z) (sym e) (record {
+      writable = writable m laws targets blocks best.sum share c s level small few blocks_few bound;
+      few_cells = total-few m targets blocks best.sum share c s;
+      searched = λ ne. subst (λ (z : Certificate). IsSearched m targets best.sum z) same (s.searched ne);
+      accepted = subst (λ (z : Certificate). IsAccepted m targets z) same s.cert.accepted;
+      bound = s.cert.bound ∙ ap (value m targets) same;
+    })

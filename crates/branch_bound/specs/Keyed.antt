@@ -3,8 +3,9 @@ use Rattle.std.specs.Prelude.{ℕ, suc, ◌+◌, length, ◌/◌, ◌%◌, ◌==
 use Rattle.std.specs.declared.alloc.Global.{Global}
 use Rattle.box_layers.specs.declared.cell_value.CellValue.{CellValue}
 use Rattle.box_layers.specs.declared.key.Key.{Key}
-use Rattle.bound_cert.specs.Content.{Layer}
+use Rattle.bound_cert.specs.Content.{Layer, Plain}
 use Rattle.open_cells.specs.declared.node.Node.{Node}
+use Rattle.branch_bound.specs.declared.levels.LevelCert.{LevelCert}
 
 abbrev pub key_at : ℕ → ℕ → ℕ → Key
 key_at block place lane = record { block = block; place = place; lane = lane }
@@ -32,3 +33,7 @@ keyed samples i (x ∷ xs) = cut (i / samples) (i % samples) x.items ++ keyed sa
 abbrev pub cell_total : List Layer → ℕ
 cell_total [] = 0
 cell_total (x ∷ xs) = length x.cells + cell_total xs
+
+-- what a search shows at a level, as it is stored
+abbrev pub stored_as : ℕ → LevelCert → Plain
+stored_as samples c = record { blocks = c.blocks; level = c.level; bound = c.bound; layers = keyed samples 0 c.layers.items }

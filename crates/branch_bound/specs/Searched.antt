@@ -1,13 +1,17 @@
 -- What a search shows of a segment.
-use Rattle.std.specs.Prelude.{◌≡◌, ℕ, ◌≤◌, ◌<◌, ◌⊎◌, ℤ, List, length, Some, min, ◌/◌}
+use Rattle.std.specs.Prelude.{◌≡◌, ◌≢◌, ℕ, ◌≤◌, ◌<◌, ◌⊎◌, ℤ, List, length, Some, min, ◌/◌}
 use Rattle.machine_core.specs.declared.boxes.Cell.{Cell}
 use Rattle.machine_core.specs.declared.choice.Choice.{Choice}
 use Rattle.machine_core.specs.Blocks.{Blocks, IsLegal, first_only}
 use Rattle.machine_core.specs.Rules.{Rules}
 use Rattle.machine_core.specs.Sums.{sum_of}
-use Rattle.box_layers.specs.Certificates.{Certificate, found}
+use Rattle.bound_cert.specs.Content.{Plain}
+use Rattle.bound_cert.specs.Spelling.{IsWritable}
+use Rattle.box_layers.specs.Certificates.{Certificate, IsAccepted, found, value}
+use Rattle.cert_check.specs.Layers.{certificate_of}
 use Rattle.open_cells.specs.Counts.{IsFew, IsMany}
 use Rattle.open_cells.specs.Paths.{Opens}
+use Rattle.branch_bound.specs.Keyed.{cell_total}
 
 -- the natural certificate lists each cell that an open path reaches, with no less than the lesser of `most` and what is found, and no other
 pub record IsSearched (m : Rules) (targets : List ℤ) (most : ℕ) (c : Certificate) : Type 0 where
@@ -41,3 +45,15 @@ IsLevel m targets blocks most share level =
 -- how many blocks these targets are
 abbrev pub blocks_in : Rules → List ℤ → ℕ
 blocks_in m targets = length targets / m.decoder.samples
+
+-- the certificate of a stored segment
+abbrev pub stored_certificate : Rules → Plain → Certificate
+stored_certificate m p = certificate_of m p.layers p.level p.blocks
+
+-- a stored segment can be written, lists at most `share` cells, is the natural one where it is not of the floors alone, and shows its bound
+pub record IsStored (m : Rules) (targets : List ℤ) (most share : ℕ) (p : Plain) : Type 0 where
+  pub writable : IsWritable m.kind m.decoder.samples p
+  pub few_cells : cell_total p.layers ≤ share
+  pub searched : p.level ≢ 255 → IsSearched m targets most (stored_certificate m p)
+  pub accepted : IsAccepted m targets (stored_certificate m p)
+  pub bound : p.bound ≡ value m targets (stored_certificate m p)

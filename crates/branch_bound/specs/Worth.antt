@@ -1,5 +1,5 @@
 -- What listed cells are worth, layer by layer from the end.
-use Rattle.std.specs.Prelude.{◌≡◌, ℕ, zero, suc, ◌-◌, ◌*◌, ◌<◌, ℤ, List, [], length, Vec, min, map, IsTrue, slice_index_or}
+use Rattle.std.specs.Prelude.{◌≡◌, ℕ, zero, suc, ◌-◌, ◌*◌, ◌<◌, ℤ, List, [], length, Vec, min, map}
 use Rattle.std.specs.declared.alloc.Global.{Global}
 use Rattle.open_cells.specs.declared.node.Node.{Node}
 use Rattle.open_cells.specs.Nodes.{listed_in, IsRising}
@@ -7,13 +7,13 @@ use Rattle.open_cells.specs.declared.search.Search.{Search}
 use Rattle.open_cells.specs.Counts.{nodes_at}
 use Rattle.adpcm_nums.specs.LeastValue.{least}
 use Rattle.block_steps.specs.Tables.{HoldRows, IsSpot}
+use Rattle.block_steps.specs.declared.plan.Plan.{Plan}
 use Rattle.block_steps.specs.declared.spots.Spot.{Spot}
 use Rattle.box_layers.specs.Certificates.{Certificate, found}
 use Rattle.box_layers.specs.Looking.{cell_near, or_else, span_count}
 use Rattle.machine_core.specs.Floors.{block_targets, top}
 use Rattle.machine_core.specs.Rules.{Rules}
 use Rattle.machine_core.specs.declared.boxes.Cell.{Cell}
-use Rattle.machine_core.specs.declared.pieces.Piece.{Piece}
 
 -- what a cell near a corner is worth
 abbrev pub cell_worth : List Node → ℕ → ℕ → Cell → ℕ → ℕ → ℕ
@@ -37,6 +37,10 @@ pub record IsHere (m : Rules) (s : Search) (at : Spot) : Type 0 where
   pub within : at.index < s.end
   pub rows : HoldRows m (block_targets m s.targets.now at.block) s.rows.now
 
+-- what ways on are found by, of what a search reads
+abbrev pub plan_in : Search → Plan
+plan_in s = record { targets = s.targets; rows = s.rows; later = s.later; blocks = s.blocks; end = s.end; level = s.level }
+
 -- a node with what its cell is worth before the layer `next`
 abbrev pub valued : Rules → List ℤ → ℕ → ℕ → ℕ → ℕ → List Node → Node → Node
 valued m targets blocks level most i next x = record { lane = x.lane; cell = x.cell; cost = min most (found m targets (layer_certificate level blocks next) i x.lane x.cell) }
@@ -56,7 +60,3 @@ pub record AreBacked (m : Rules) (targets : List ℤ) (blocks level most : ℕ) 
   pub size : length layers ≡ k
   pub each : (j : ℕ) → j < k → nodes_at layers j ≡ map (valued m targets blocks level most (n - suc j) (prior layers j)) (nodes_at fronts (n - suc j))
   pub rising : (j : ℕ) → j < k → IsRising (nodes_at layers j)
-
--- each piece is a box at a place
-abbrev pub AllBoxes : Rules → ℕ → List Piece → Type 0
-AllBoxes m place pieces = (k : ℕ) → k < length pieces → (q : Piece) → slice_index_or pieces k q ≡ q → IsTrue (m.is_box place q.bx)

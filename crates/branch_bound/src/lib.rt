@@ -6,6 +6,7 @@ mod finding;
 mod keyed;
 mod levels;
 mod looks;
+mod next_layer;
 mod searching;
 mod top;
 mod walking;

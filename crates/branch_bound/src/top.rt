@@ -8,11 +8,13 @@ ghost use Rattle.machine_core.specs.Floors.{floors_from};
 ghost use Rattle.machine_core.specs.Sums.{sum_of};
 ghost use Rattle.open_cells.specs.Paths.{FitTargets, IsWhole};
 ghost use Rattle.branch_bound.specs.Keyed.{cell_total};
-ghost use Rattle.branch_bound.specs.Searched.{IsChoice, IsLevel, IsSearched, blocks_in};
+ghost use Rattle.branch_bound.specs.Searched.{IsChoice, IsLevel, IsSearched, IsStored, blocks_in};
 
-use crate::keyed::all_keyed;
-use crate::searching::search_segment;
+use crate::keyed::stored;
+use crate::levels::search_levels;
+use crate::searching::{choose, zeros};
 use adpcm_nums::NoMemory;
+use block_steps::fill_later;
 use bound_cert::SegmentCert;
 use machine_core::{Choice, Machine};
 use std::alloc::Global;
@@ -32,6 +34,79 @@ fn blocks_of<M: Machine>(machine: &M, targets: &[i32]) -> u32
     ensures { result ≡ blocks_in (M.rules machine.now) targets.now }
 {
     targets.len() as u32 / machine.block_samples()
+}
+
+/// Searches a segment of so many blocks for a bound near its least sum, and for its least list.
+fn search_segment<M: Machine>(
+    alloc: Global,
+    machine: &M,
+    targets: &[i32],
+    blocks: u32,
+    best: Choice,
+    share: u32,
+) -> Result<Found, NoMemory>
+    requires blocks { 0 < blocks }
+    requires fit { FitTargets (M.rules machine.now) blocks targets.now }
+    requires small { blocks * (M.rules machine.now).decoder.samples < 2 ^ 31 }
+    requires filed { IsFiled (M.rules machine.now) }
+    requires room { (M.rules machine.now).decoder.heads * (M.rules machine.now).floor_len < 2 ^ 31 }
+    requires few { length targets.now ≤ 262144 }
+    requires few_blocks { blocks < 65536 }
+    requires best { IsChoice (M.rules machine.now) blocks targets.now best }
+    ensures blocks { IfOk result (λ f. f.cert.blocks ≡ blocks) }
+    ensures level { IfOk result (λ f. IsLevel (M.rules machine.now) targets.now blocks best.sum share f.cert.level) }
+    ensures stored { IfOk result (λ f. IsStored (M.rules machine.now) targets.now best.sum share f.cert) }
+    ensures choice { IfOk result (λ f. IsChoice (M.rules machine.now) blocks targets.now f.choice) }
+    ensures least { IfOk result (λ f. f.cert.level ≡ 0 → (l : Blocks) → IsLegal (M.rules machine.now).decoder blocks first_only l → f.choice.sum ≤ sum_of (M.rules machine.now).decoder l targets.now blocks) }
+    ensures kept { IfOk result (λ f. (f.cert.level ≡ 0 → f.choice.sum ≡ best.sum) → f.choice ≡ best) }
+    ensures optimal { IfOk result (λ f. f.cert.level ≡ 0 → f.cert.bound ≡ f.choice.sum) }
+    ensures near { IfOk result (λ f. f.cert.level ≢ 255 → (w : ℕ) → w ≤ best.sum → ((cost : ℕ) → IsWhole (M.rules machine.now) targets.now blocks f.cert.level cost → w ≤ cost) → w ≤ f.cert.bound) }
+    ensures floor_only { IfOk result (λ f. f.cert.level ≡ 255 → f.cert.bound ≡ floors_from (M.rules machine.now) first_only targets.now 0 blocks) }
+{
+    let mut rows = match zeros(
+        alloc,
+        machine.heads() as usize * machine.floor_len() as usize,
+    ) {
+        Ok(v) => v,
+        Err(e) => return Err(e),
+    };
+    let mut later = match zeros(alloc, blocks as usize + 1) {
+        Ok(v) => v,
+        Err(e) => return Err(e),
+    };
+    fill_later(machine, targets, blocks, later.as_mut_slice());
+    let cert = match search_levels(
+        alloc,
+        machine,
+        targets,
+        rows.as_mut_slice(),
+        later.as_slice(),
+        blocks,
+        best.sum,
+        share,
+    ) {
+        Ok(c) => c,
+        Err(e) => return Err(e),
+    };
+    let choice = match choose(
+        alloc,
+        machine,
+        targets,
+        rows.as_mut_slice(),
+        later.as_slice(),
+        blocks,
+        best,
+        share,
+        &cert,
+    ) {
+        Ok(c) => c,
+        Err(e) => return Err(e),
+    };
+    let cert = match stored(alloc, machine.block_samples(), &cert) {
+        Ok(c) => c,
+        Err(e) => return Err(e),
+    };
+    Ok(Found { choice, cert })
 }
 
 /// Searches one segment for a bound near its least sum, and where it can for its least list (this project's own choice).
@@ -74,22 +149,5 @@ pub fn bound_search<M: Machine>(
     ensures bound { IfOk result (λ f. f.cert.bound ≡ value (M.rules machine.now) targets.now (certificate_of (M.rules machine.now) f.cert.layers f.cert.level f.cert.blocks)) }
 {
     let blocks = blocks_of(machine, targets);
-    let found = match search_segment(alloc, machine, targets, blocks, best, share) {
-        Ok(f) => f,
-        Err(e) => return Err(e),
-    };
-    let layers = match all_keyed(alloc, machine.block_samples(), found.cert.layers.as_slice()) {
-        Ok(v) => v,
-        Err(e) => return Err(e),
-    };
-    let cert = SegmentCert::new(
-        found.cert.blocks,
-        found.cert.level,
-        found.cert.bound,
-        layers,
-    );
-    Ok(Found {
-        choice: found.choice,
-        cert,
-    })
+    search_segment(alloc, machine, targets, blocks, best, share)
 }

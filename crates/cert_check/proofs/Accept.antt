@@ -15,7 +15,8 @@ use Rattle.box_layers.specs.Keys.{key_same}
 use Rattle.machine_core.specs.Blocks.{first_only}
 use Rattle.machine_core.specs.Floors.{floor_of_blocks}
 use Rattle.machine_core.specs.Cells.{is_level}
-use Rattle.cert_check.specs.Layers.{cells_for, key_for, certificate_of}
+use Rattle.block_steps.specs.Ways.{key_for}
+use Rattle.cert_check.specs.Layers.{cells_for, certificate_of}
 use Rattle.cert_check.specs.Faults.{AreLayers, LayersHold, index_of}
 use Rattle.std.proofs.lemmas.Bool.{cases_Bool, cond-true, cond-false}
 use Rattle.box_layers.proofs.CellOrder.{same-true}

@@ -21,7 +21,8 @@ use Rattle.machine_core.specs.Floors.{top, block_floor, floors_from, block_targe
 use Rattle.machine_core.proofs.Places.{block-of, place-of}
 use Rattle.box_layers.specs.Cells.{value_of}
 use Rattle.bound_cert.specs.Content.{Layer}
-use Rattle.cert_check.specs.Layers.{certificate_of, cells_for, key_for}
+use Rattle.block_steps.specs.Ways.{key_for}
+use Rattle.cert_check.specs.Layers.{certificate_of, cells_for}
 
 -- what a check is given of targets
 pub record Targets (m : Rules) (blocks : ℕ) (targets : List ℤ) : Type 0 where

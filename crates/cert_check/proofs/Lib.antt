@@ -1,13 +1,9 @@
-pub mod LeastMore
-pub mod Rows
-pub mod Later
 pub mod Steps
 pub mod Upward
+pub mod CellByCell
 pub mod LayerByLayer
 pub mod Accept
 pub mod Ready
-pub mod Alike
-pub mod Capped
 pub mod Exact
 pub mod Refused
 pub mod BrrFiled

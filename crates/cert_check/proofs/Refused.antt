@@ -14,7 +14,8 @@ use Rattle.box_layers.proofs.CellOrder.{before-not-same, same-refl}
 use Rattle.box_layers.proofs.Sorted.{ascending-at, value-first}
 use Rattle.bound_cert.specs.Content.{Layer, AreSorted}
 use Rattle.cert_check.specs.declared.checking.CellFault.{CellFault}
-use Rattle.cert_check.specs.Layers.{cells_for, key_for, certificate_of}
+use Rattle.block_steps.specs.Ways.{key_for}
+use Rattle.cert_check.specs.Layers.{cells_for, certificate_of}
 use Rattle.cert_check.specs.Faults.{AreLayers, IsFirstFault, index_of}
 use Rattle.cert_check.proofs.Upward.{before-not, below-at}
 

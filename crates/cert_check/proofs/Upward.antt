@@ -15,10 +15,11 @@ use Rattle.box_layers.specs.Cells.{value_of}
 use Rattle.bound_cert.specs.Content.{Layer, IsBelowAll, AreSorted}
 use Rattle.std.proofs.lemmas.Bool.{cond-false}
 use Rattle.box_layers.proofs.CellOrder.{key-trans}
-use Rattle.cert_check.specs.Layers.{cells_for, key_for, certificate_of, listed_in}
+use Rattle.block_steps.specs.Ways.{key_for}
+use Rattle.cert_check.specs.Layers.{cells_for, certificate_of, listed_in}
 use Rattle.cert_check.specs.Faults.{index_of}
 use Rattle.adpcm_nums.proofs.LeastValueLaws.{least-same}
-use Rattle.cert_check.proofs.Steps.{head-same}
+use Rattle.block_steps.proofs.Steps.{head-same}
 
 pub before-not : (j k : Key) → key_before j k ≡ true → key_same j k ≡ false
 unfolding key_before

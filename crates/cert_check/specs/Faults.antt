@@ -6,11 +6,11 @@ use Rattle.box_layers.specs.declared.key.Key.{Key}
 use Rattle.box_layers.specs.declared.cell_value.CellValue.{CellValue}
 use Rattle.box_layers.specs.Cells.{nth}
 use Rattle.bound_cert.specs.Content.{Layer}
+use Rattle.block_steps.specs.declared.plan.Plan.{Plan}
 use Rattle.machine_core.specs.declared.boxes.Cell.{Cell}
 use Rattle.machine_core.specs.Rules.{Rules}
 use Rattle.box_layers.specs.Certificates.{found, Certificate}
 use Rattle.cert_check.specs.declared.checking.CellFault.{CellFault}
-use Rattle.cert_check.specs.declared.plan.Plan.{Plan}
 use Rattle.cert_check.specs.Layers.{certificate_of}
 
 abbrev pub found_by : Rules → Plan → List Layer → ℕ → ℕ → Cell → ℕ

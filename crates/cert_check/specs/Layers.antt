@@ -1,5 +1,5 @@
 -- What layers list.
-use Rattle.std.specs.Prelude.{ℕ, ◌/◌, ◌%◌, List, [], ◌∷◌, if◌then◌else◌, Option, Some, None}
+use Rattle.std.specs.Prelude.{ℕ, List, [], ◌∷◌, if◌then◌else◌, Option, Some, None}
 use Rattle.machine_core.specs.declared.boxes.Cell.{Cell}
 use Rattle.machine_core.specs.Rules.{Rules}
 use Rattle.box_layers.specs.Certificates.{Certificate}
@@ -8,14 +8,12 @@ use Rattle.box_layers.specs.declared.cell_value.CellValue.{CellValue}
 use Rattle.bound_cert.specs.Content.{Layer, Here, Segment}
 use Rattle.box_layers.specs.Cells.{value_of}
 use Rattle.box_layers.specs.Keys.{key_same}
+use Rattle.block_steps.specs.Ways.{key_for}
 
 -- the cells of the first layer with a key, none where it is not there
 abbrev pub cells_for : List Layer → Key → List CellValue
 cells_for [] key = []
 cells_for (x ∷ xs) key = if key_same x.key key then x.cells else cells_for xs key
-
-abbrev pub key_for : Rules → ℕ → ℕ → Key
-key_for m i lane = record { block = i / m.decoder.samples; place = i % m.decoder.samples; lane = lane }
 
 abbrev pub listed_in : Rules → List Layer → ℕ → ℕ → Cell → Option ℕ
 listed_in m layers i lane = value_of (cells_for layers (key_for m i lane))

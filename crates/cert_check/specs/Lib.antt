@@ -1,5 +1,2 @@
 pub mod Layers
-pub mod Tables
-pub mod Plans
-pub mod Ways
 pub mod Faults

@@ -6,17 +6,14 @@ ghost use Rattle.adpcm_nums.specs.Sample.{AreSamples};
 ghost use Rattle.bound_cert.specs.Filed.{IsFiled};
 ghost use Rattle.cert_check.specs.Faults.{AreCells, HoldsBelow, IsCellFault, found_by, index_of, IsLayer};
 ghost use Rattle.cert_check.specs.Layers.{certificate_of};
-ghost use Rattle.cert_check.specs.Plans.{IsPlan, IsCurrent};
-ghost use Rattle.cert_check.specs.Tables.{HoldRows, HoldLater};
+ghost use Rattle.block_steps.specs.Plans.{IsPlan, IsCurrent};
+ghost use Rattle.block_steps.specs.Tables.{HoldRows, HoldLater, IsSpot};
 ghost use Rattle.machine_core.specs.Cells.{is_level};
 
+use crate::ahead::Behind;
 use crate::checking::CellFault;
-use crate::finding::find;
-use crate::floors::fill_rows;
-use crate::plan::Plan;
-use crate::spots::Spot;
-use crate::stepping::{spot_of, targets_in};
-use bound_cert::LayerView;
+use block_steps::{Plan, Spot, find, refill};
+use bound_cert::{Key, LayerView};
 use machine_core::Machine;
 
 /// Checks the cells of a layer, and names the first whose value is above what is found.
@@ -39,7 +36,7 @@ fn check_cells<M: Machine>(
         let found = find(
             machine,
             plan,
-            here,
+            &Behind { here },
             at,
             lane,
             c.cell,
@@ -57,27 +54,21 @@ fn check_cells<M: Machine>(
     Ok(())
 }
 
-/// Fills in the rows of a block, where they are not those of this block.
-fn refill<M: Machine>(
-    machine: &M,
-    targets: &[i32],
-    blocks: u32,
-    block: u32,
-    filled: u32,
-    rows: &mut [u64],
-)
-    requires count { length targets.now ≡ blocks * (M.rules machine.now).decoder.samples }
-    requires block { block < blocks }
-    requires range { AreSamples targets.now }
+/// The sample that a layer stands before.
+fn spot_of<M: Machine>(machine: &M, blocks: u32, key: Key) -> Spot
+    requires block { key.block < blocks }
+    requires place { key.place < (M.rules machine.now).decoder.samples }
     requires small { blocks * (M.rules machine.now).decoder.samples < 2 ^ 31 }
-    requires room { (M.rules machine.now).decoder.heads * (M.rules machine.now).floor_len < 2 ^ 31 }
-    requires rows { length rows.old ≡ (M.rules machine.now).decoder.heads * (M.rules machine.now).floor_len }
-    requires filled { filled < blocks → HoldRows (M.rules machine.now) (block_targets (M.rules machine.now) targets.now filled) rows.old }
-    ensures { HoldRows (M.rules machine.now) (block_targets (M.rules machine.now) targets.now block) rows.new }
+    ensures index { result.index ≡ index_of (M.rules machine.now) key }
+    ensures block { result.block ≡ key.block }
+    ensures place { result.place ≡ key.place }
+    ensures spot { IsSpot (M.rules machine.now) result }
+    ensures within { result.index < blocks * (M.rules machine.now).decoder.samples }
 {
-    if block != filled {
-        let samples = machine.block_samples();
-        fill_rows(machine, targets_in(targets, samples, blocks, block), rows);
+    Spot {
+        index: key.block * machine.block_samples() + key.place,
+        block: key.block,
+        place: key.place,
     }
 }
 

@@ -6,15 +6,8 @@
 
 mod ahead;
 mod checking;
-mod finding;
-mod floors;
 mod layers;
 mod listed;
-mod plan;
-mod spots;
-mod stepping;
-mod symbols;
-mod ways;
 mod whole;
 
 pub use checking::CellFault;

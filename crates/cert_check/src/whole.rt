@@ -9,14 +9,14 @@ ghost use Rattle.bound_cert.specs.Filed.{IsFiled};
 ghost use Rattle.bound_cert.specs.Good.{SegmentFits};
 ghost use Rattle.cert_check.specs.Faults.{AreLayers, LayersHold, IsFirstFault};
 ghost use Rattle.cert_check.specs.Layers.{certificate_in};
-ghost use Rattle.cert_check.specs.Tables.{HoldLater};
+ghost use Rattle.block_steps.specs.Tables.{HoldLater};
 ghost use Rattle.machine_core.specs.Blocks.{first_only};
 ghost use Rattle.machine_core.specs.Cells.{is_level};
 
 use crate::checking::CellFault;
-use crate::floors::fill_later;
 use crate::layers::check_layer;
 use crate::listed::listed_for;
+use block_steps::fill_later;
 use bound_cert::{Key, SegmentView};
 use box_layers::accepted_values_hold;
 use machine_core::{Machine, State, floors_hold};

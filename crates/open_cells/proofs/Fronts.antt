@@ -7,7 +7,7 @@ use Rattle.open_cells.specs.declared.node.Node.{Node}
 use Rattle.open_cells.specs.Nodes.{HasNode, Keeps, IsMerged}
 use Rattle.open_cells.proofs.Merging.{has-kept, keeps-trans, keeps-self, same-get}
 use Rattle.open_cells.specs.declared.search.Search.{Search}
-use Rattle.open_cells.specs.Reach.{IsSearch, IsNext, IsOpen, AreOpen, AreBoxes, Reaches, ReachesAll, ReachesBySymbols, ReachesByHeads, ReachesFrom, image_at, IsLayer}
+use Rattle.open_cells.specs.Reach.{HasVisited, IsSearch, IsNext, IsOpen, AreOpen, AreBoxes, Reaches, ReachesAll, ReachesBySymbols, ReachesByHeads, ReachesFrom, image_at, IsLayer}
 use Rattle.open_cells.proofs.Pieces.{reaches-kept}
 use Rattle.block_steps.specs.Tables.{IsSpot}
 use Rattle.block_steps.specs.declared.spots.Spot.{Spot}
@@ -109,10 +109,8 @@ pub heads-kept : (m : Rules) (s : Search) (i n : ℕ) (x : Node) (a b : List Nod
 heads-kept m s i n x a b k r j h t = symbols-kept m s i j _ x a b k (r j h t)
 
 -- after n heads
-pub record Headed (m : Rules) (s : Search) (i : ℕ) (x : Node) (old now : List Node) (n : ℕ) : Type 0 where
-  pub opened : AreOpen m s (suc i) now
-  pub kept : Keeps old now
-  pub reached : ReachesByHeads m s i x n now
+abbrev Headed : Rules → Search → ℕ → Node → List Node → List Node → ℕ → Type 0
+Headed m s i x old now n = HasVisited m s (suc i) old now (ReachesByHeads m s i x n)
 
 pub headed-more : (m : Rules) (s : Search) (i : ℕ) (x : Node) (old mid now : List Node) (n : ℕ) → Headed m s i x old mid n → AreOpen m s (suc i) now → Keeps mid now
     → ReachesBySymbols m s i x n (m.decoder.symbols (i % m.decoder.samples)) now → Headed m s i x old now (n + 1)

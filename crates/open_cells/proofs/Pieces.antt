@@ -99,6 +99,10 @@ pub on-ok : {E : Type 0} {P Q : Type 0} (r : Result (Unit {0}) E) → OnOk r P �
 on-ok (Ok x) p f = f p
 on-ok (Err e) p f = tt
 
+pub on-ok-both : {E : Type 0} {P Q R : Type 0} (r : Result (Unit {0}) E) → OnOk r P → OnOk r Q → (P → Q → R) → OnOk r R
+on-ok-both (Ok x) p q f = f p q
+on-ok-both (Err e) p q f = tt
+
 pub same-piece : (xs : List Piece) (i : ℕ) (d e : Piece) → i < length xs → get_or xs i d ≡ get_or xs i e
 same-piece [] i d e h = absurd (omega arith)
 same-piece (x ∷ xs) zero d e h = refl

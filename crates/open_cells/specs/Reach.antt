@@ -1,8 +1,10 @@
 -- What one step of the search reaches.
-use Rattle.std.specs.Prelude.{◌≡◌, ℕ, suc, ◌+◌, ◌*◌, ◌^◌, ◌<◌, ◌≤◌, ◌⊎◌, ℤ, pos, List, length, get_or, IsTrue, ◌%◌, true}
+use Rattle.std.specs.Prelude.{◌≡◌, Result, Err, ℕ, suc, ◌+◌, ◌*◌, ◌^◌, ◌<◌, ◌≤◌, ◌⊎◌, ℤ, pos, List, length, get_or, IsTrue, ◌%◌, true}
 use Rattle.std.specs.List.{Contains}
 use Rattle.open_cells.specs.declared.node.Node.{Node}
-use Rattle.open_cells.specs.Nodes.{HasNode, IsRising, IsTooMany}
+use Rattle.open_cells.specs.declared.node.Halt.{Halt}
+use Rattle.open_cells.specs.declared.node.Halt.TheVariants.{Many}
+use Rattle.open_cells.specs.Nodes.{HasNode, IsRising, IsTooMany, Keeps}
 use Rattle.open_cells.specs.declared.search.Search.{Search}
 use Rattle.bound_cert.specs.Filed.{IsFiled}
 use Rattle.block_steps.specs.Tables.{HoldLater, HoldRows, IsSpot}
@@ -91,6 +93,17 @@ ReachesByHeads m s i x n made = (head : ℕ) → head < n → may_take m first_o
 -- of the first nodes of a layer
 abbrev pub ReachesFrom : Rules → Search → ℕ → List Node → ℕ → List Node → Type 0
 ReachesFrom m s i front n made = (k : ℕ) (d : Node) → k < n → ReachesByHeads m s i (get_or front k d) m.decoder.heads made
+
+-- a list of open paths' ends before sample i, with more nodes than there is room for where it ends with that word
+pub record IsMade (m : Rules) (s : Search) (i : ℕ) (result : Result (Unit {0}) Halt) (made : List Node) : Type 0 where
+  pub opened : AreOpen m s i made
+  pub many : result ≡ Err Many → IsTooMany s.room made
+
+-- the list after a visit: what stood in it stays, and what was visited reaches it
+pub record HasVisited (m : Rules) (s : Search) (i : ℕ) (old new : List Node) (visited : List Node → Type 0) : Type 0 where
+  pub opened : AreOpen m s i new
+  pub kept : Keeps old new
+  pub reached : visited new
 
 -- a list that holds each cell which an open path reaches before sample i, once, with the least cost, and no other cell
 pub record IsFront (m : Rules) (targets : List ℤ) (blocks level most i : ℕ) (xs : List Node) : Type 0 where

@@ -4,10 +4,8 @@ ghost use Rattle.machine_core.specs.Cells.{is_cell};
 ghost use Rattle.machine_core.specs.Floors.{may_take};
 ghost use Rattle.machine_core.specs.Rules.{grid};
 ghost use Rattle.block_steps.specs.Tables.{IsSpot};
-ghost use Rattle.open_cells.specs.declared.node.Halt.TheVariants.{Many};
-ghost use Rattle.open_cells.specs.Nodes.{Keeps, IsTooMany};
 ghost use Rattle.open_cells.specs.Paths.{IsStep};
-ghost use Rattle.open_cells.specs.Reach.{IsSearch, IsNext, IsOpen, AreOpen, Reaches, ReachesAll, ReachesBySymbols, ReachesByHeads, image_at, AreBoxes, AreSteps};
+ghost use Rattle.open_cells.specs.Reach.{HasVisited, IsMade, IsSearch, IsNext, IsOpen, AreOpen, Reaches, ReachesAll, ReachesBySymbols, ReachesByHeads, image_at, AreBoxes, AreSteps};
 
 use crate::corners::{add_box, high_cell, low_cell};
 use crate::node::{Halt, Node};
@@ -56,10 +54,8 @@ fn add_piece<M: Machine>(
     requires x { IsOpen (M.rules machine.now) s.now at.index x }
     requires step { IsStep (M.rules machine.now) s.now.targets.now s.now.level at.index x.lane x.cell q lane }
     requires made { AreOpen (M.rules machine.now) s.now (suc at.index) made.old.items }
-    ensures opened { AreOpen (M.rules machine.now) s.now (suc at.index) made.new.items }
-    ensures kept { OnOk result (Keeps made.old.items made.new.items) }
-    ensures reached { OnOk result (Reaches (M.rules machine.now) s.now at.index x q lane made.new.items) }
-    ensures many { result ≡ Err Many → IsTooMany s.now.room made.new.items }
+    ensures made { IsMade (M.rules machine.now) s.now (suc at.index) result made.new.items }
+    ensures visited { OnOk result (HasVisited (M.rules machine.now) s.now (suc at.index) made.old.items made.new.items (Reaches (M.rules machine.now) s.now at.index x q lane)) }
 {
     let rest = rest_of(
         machine, s.targets, s.blocks, s.rows, s.later, next, lane, q.bx,
@@ -91,10 +87,8 @@ fn add_pieces<M: Machine>(
     requires x { IsOpen (M.rules machine.now) s.now at.index x }
     requires steps { AreSteps (M.rules machine.now) s.now at.index x lane pieces.now }
     requires made { AreOpen (M.rules machine.now) s.now (suc at.index) made.old.items }
-    ensures opened { AreOpen (M.rules machine.now) s.now (suc at.index) made.new.items }
-    ensures kept { OnOk result (Keeps made.old.items made.new.items) }
-    ensures reached { OnOk result (ReachesAll (M.rules machine.now) s.now at.index x pieces.now lane made.new.items) }
-    ensures many { result ≡ Err Many → IsTooMany s.now.room made.new.items }
+    ensures made { IsMade (M.rules machine.now) s.now (suc at.index) result made.new.items }
+    ensures visited { OnOk result (HasVisited (M.rules machine.now) s.now (suc at.index) made.old.items made.new.items (ReachesAll (M.rules machine.now) s.now at.index x pieces.now lane)) }
 {
     for q in pieces {
         match add_piece(alloc, machine, s, at, next, lane, x, *q, made) {
@@ -124,10 +118,8 @@ fn add_symbols<M: Machine>(
     requires cell { IsTrue (is_cell (grid (M.rules machine.now)) s.now.level x.cell) }
     requires x { IsOpen (M.rules machine.now) s.now at.index x }
     requires made { AreOpen (M.rules machine.now) s.now (suc at.index) made.old.items }
-    ensures opened { AreOpen (M.rules machine.now) s.now (suc at.index) made.new.items }
-    ensures kept { OnOk result (Keeps made.old.items made.new.items) }
-    ensures reached { OnOk result (ReachesBySymbols (M.rules machine.now) s.now at.index x head ((M.rules machine.now).decoder.symbols (at.index % (M.rules machine.now).decoder.samples)) made.new.items) }
-    ensures many { result ≡ Err Many → IsTooMany s.now.room made.new.items }
+    ensures made { IsMade (M.rules machine.now) s.now (suc at.index) result made.new.items }
+    ensures visited { OnOk result (HasVisited (M.rules machine.now) s.now (suc at.index) made.old.items made.new.items (ReachesBySymbols (M.rules machine.now) s.now at.index x head ((M.rules machine.now).decoder.symbols (at.index % (M.rules machine.now).decoder.samples)))) }
 {
     let lane = lane_of(machine, next, head);
     let slack = s.most.saturating_sub(1).saturating_sub(x.cost);
@@ -167,10 +159,8 @@ fn add_heads<M: Machine>(
     requires next { IsNext (M.rules machine.now) s.now at next }
     requires x { IsOpen (M.rules machine.now) s.now at.index x }
     requires made { AreOpen (M.rules machine.now) s.now (suc at.index) made.old.items }
-    ensures opened { AreOpen (M.rules machine.now) s.now (suc at.index) made.new.items }
-    ensures kept { OnOk result (Keeps made.old.items made.new.items) }
-    ensures reached { OnOk result (ReachesByHeads (M.rules machine.now) s.now at.index x (M.rules machine.now).decoder.heads made.new.items) }
-    ensures many { result ≡ Err Many → IsTooMany s.now.room made.new.items }
+    ensures made { IsMade (M.rules machine.now) s.now (suc at.index) result made.new.items }
+    ensures visited { OnOk result (HasVisited (M.rules machine.now) s.now (suc at.index) made.old.items made.new.items (ReachesByHeads (M.rules machine.now) s.now at.index x (M.rules machine.now).decoder.heads)) }
 {
     for h in 0..machine.heads() {
         if takes(machine, at, x.lane, h) {
@@ -198,10 +188,8 @@ pub fn add_node<M: Machine>(
     requires next { IsNext (M.rules machine.now) s.now at next }
     requires x { IsOpen (M.rules machine.now) s.now at.index x }
     requires made { AreOpen (M.rules machine.now) s.now (suc at.index) made.old.items }
-    ensures opened { AreOpen (M.rules machine.now) s.now (suc at.index) made.new.items }
-    ensures kept { OnOk result (Keeps made.old.items made.new.items) }
-    ensures reached { OnOk result (ReachesByHeads (M.rules machine.now) s.now at.index x (M.rules machine.now).decoder.heads made.new.items) }
-    ensures many { result ≡ Err Many → IsTooMany s.now.room made.new.items }
+    ensures made { IsMade (M.rules machine.now) s.now (suc at.index) result made.new.items }
+    ensures visited { OnOk result (HasVisited (M.rules machine.now) s.now (suc at.index) made.old.items made.new.items (ReachesByHeads (M.rules machine.now) s.now at.index x (M.rules machine.now).decoder.heads)) }
 {
     if at.place == 0 {
         return add_heads(alloc, machine, s, at, next, x, made);

@@ -1,8 +1,7 @@
 ghost use Rattle.std.specs.Prelude.{◌≡◌, ℕ, suc, ◌+◌, ◌%◌, ◌*◌, ◌<◌, ◌≤◌, ℤ, pos, ◌+ℤ◌, ◌≤ℤ◌, IsTrue, OnOk, Err, vec_len, length, List, [], true};
 ghost use Rattle.block_steps.specs.Tables.{IsSpot};
 ghost use Rattle.open_cells.specs.declared.node.Halt.TheVariants.{Many};
-ghost use Rattle.open_cells.specs.Nodes.{IsTooMany};
-ghost use Rattle.open_cells.specs.Reach.{IsSearch, IsCurrent, IsNext, AreOpen, ReachesFrom, IsLayer, IsOver};
+ghost use Rattle.open_cells.specs.Reach.{HasVisited, IsMade, IsSearch, IsCurrent, IsNext, AreOpen, ReachesFrom, IsLayer, IsOver};
 
 use crate::node::{Halt, Node};
 use crate::relaxing::add_node;
@@ -27,9 +26,8 @@ fn add_front<M: Machine>(
     requires next { IsNext (M.rules machine.now) s.now at next }
     requires front { AreOpen (M.rules machine.now) s.now at.index front.now }
     requires made { AreOpen (M.rules machine.now) s.now (suc at.index) made.old.items }
-    ensures opened { AreOpen (M.rules machine.now) s.now (suc at.index) made.new.items }
-    ensures reached { OnOk result (ReachesFrom (M.rules machine.now) s.now at.index front.now (length front.now) made.new.items) }
-    ensures many { result ≡ Err Many → IsTooMany s.now.room made.new.items }
+    ensures made { IsMade (M.rules machine.now) s.now (suc at.index) result made.new.items }
+    ensures visited { OnOk result (HasVisited (M.rules machine.now) s.now (suc at.index) made.old.items made.new.items (ReachesFrom (M.rules machine.now) s.now at.index front.now (length front.now))) }
 {
     for x in front {
         match add_node(alloc, machine, s, at, next, *x, made) {

@@ -4,7 +4,7 @@ use Rattle.box_layers.specs.declared.key.Key.{Key}
 use Rattle.bound_cert.specs.Content.{Here}
 use Rattle.machine_core.specs.Floors.{block_targets}
 use Rattle.cert_check.specs.Layers.{from_here}
-use Rattle.cert_check.specs.Tables.{HoldRows}
+use Rattle.block_steps.specs.Tables.{HoldRows}
 use Rattle.cert_check.proofs.LayerByLayer.{layers-more-at, first-fault-at, layer-fits, next-rest, none-left}
 use Rattle.cert_check.proofs.whole.check_layers.Goals as goal
 

@@ -1,7 +1,7 @@
 use Rattle.std.proofs.Common.{◌≡◌, ◌<◌, ◌*◌, length, drop}
 use Rattle.machine_core.specs.Floors.{block_targets}
 use Rattle.cert_check.specs.Layers.{certificate_of, from_here}
-use Rattle.cert_check.specs.Tables.{HoldRows}
+use Rattle.block_steps.specs.Tables.{HoldRows}
 use Rattle.cert_check.specs.Faults.{LayersHold}
 use Rattle.cert_check.proofs.whole.check_layers.Given as goal
 

@@ -14,12 +14,13 @@ loop-h-preserved g c =
     let m = g.M.Machine.rules c.args.machine.now in let s = c.args.s.now in let i = c.args.at.index in
     elim c.if-takes.branch [
       | then-takes+in-Ok w ↦ headed-now m s i c.args.x _ _ _ _ (ap (λ z. z.items) w.made-is)
-          (headed-more m s i c.args.x _ _ _ c.loop-h.h c.loop-h.invariant w.add_symbols.ensures.opened w.in-Ok.ensures.kept w.in-Ok.ensures.reached)
+          (headed-more m s i c.args.x _ _ _ c.loop-h.h c.loop-h.invariant w.in-Ok.ensures.visited.opened w.in-Ok.ensures.visited.kept w.in-Ok.ensures.visited.reached)
       | else-takes w ↦ headed-now m s i c.args.x _ _ _ _ (ap (λ z. z.items) w.made-is)
           (headed-not m s i c.args.x _ _ c.loop-h.h c.loop-h.invariant (sym c.takes.ensures ∙ w.if-takes.false))
     ]
 
-pub returns-clause-reached : goal.returns-clause-reached
-returns-clause-reached g c =
+pub returns-clause-visited : goal.returns-clause-visited
+returns-clause-visited g c =
     let f = c.heads-h-end.ensures in let t = c.loop-h-test.false in
-    λ head h. c.loop-h.invariant.reached head (omega arith)
+    let v = c.loop-h.invariant in
+    record { opened = v.opened; kept = v.kept; reached = λ head h. v.reached head (omega arith) }

@@ -32,18 +32,23 @@ add_pieces-requires-clause-boxes g c =
 pub loop-sym-preserved : goal.loop-sym-preserved
 loop-sym-preserved g c =
     let m = g.M.Machine.rules c.args.machine.now in let s = c.args.s.now in let i = c.args.at.index in
-    let k = c.in-Ok.ensures.kept in
+    let v = c.in-Ok.ensures.visited in let k = v.kept in
     record {
-      opened = c.add_pieces.ensures.opened;
+      opened = v.opened;
       kept = keeps-trans _ _ _ c.loop-sym.invariant.kept k;
       reached = symbols-more m s i c.args.head c.loop-sym.sym c.args.x _ _ k c.loop-sym.invariant.reached
-          (all-same m s i _ _ c.args.x _ _ _ (c.as_slice.ensures.value ∙ (c.pieces.view_is ∙ c.pieces_of-pieces.ensures)) (c.lane_of-lane.ensures ∙ ap (lane_at m c.args.head) c.requires.next.index) c.in-Ok.ensures.reached);
+          (all-same m s i _ _ c.args.x _ _ _ (c.as_slice.ensures.value ∙ (c.pieces.view_is ∙ c.pieces_of-pieces.ensures)) (c.lane_of-lane.ensures ∙ ap (lane_at m c.args.head) c.requires.next.index) v.reached);
     }
 
-pub returns-clause-reached : goal.returns-clause-reached
-returns-clause-reached g c =
+pub returns-clause-visited : goal.returns-clause-visited
+returns-clause-visited g c =
     let m = g.M.Machine.rules c.args.machine.now in let s = c.args.s.now in
     let laws = laws-of m (g.met.M.Machine.lawful c.args.machine.now) (g.met.M.Machine.boxed c.args.machine.now) c.requires.search in
     let w = c.requires.next.within in let i = c.requires.next.index in let t = c.loop-sym-test.false in
-    symbols-all m s c.args.at c.args.head c.saturating_sub-slack.result c.symbols_within-first.result.1 c.loop-sym.sym (lane_at m c.args.head (suc c.args.at.index)) c.args.x c.loop-sym.made.items laws c.requires.search c.requires.at (omega arith) c.requires.cell c.requires.head
-    (let a = c.saturating_sub.ensures in let b = c.saturating_sub-slack.ensures in omega arith) c.symbols_within-first.ensures.end (omega arith) c.loop-sym.invariant.reached
+    let v = c.loop-sym.invariant in
+    record {
+      opened = v.opened;
+      kept = v.kept;
+      reached = symbols-all m s c.args.at c.args.head c.saturating_sub-slack.result c.symbols_within-first.result.1 c.loop-sym.sym (lane_at m c.args.head (suc c.args.at.index)) c.args.x c.loop-sym.made.items laws c.requires.search c.requires.at (omega arith) c.requires.cell c.requires.head
+          (let a = c.saturating_sub.ensures in let b = c.saturating_sub-slack.ensures in omega arith) c.symbols_within-first.ensures.end (omega arith) v.reached;
+    }

@@ -1,7 +1,0 @@
-use Rattle.std.proofs.Common.{◌≡◌, ◌*◌, length}
-use Rattle.cert_check.specs.Tables.{HoldFirst}
-use Rattle.cert_check.proofs.floors.fill_rows.Given as goal
-
-abbrev pub invariant-loop-h : goal.invariant-loop-h
-invariant-loop-h g l = let m = g.M.Machine.rules l.machine in
-    record { count : length l.rows ≡ m.decoder.heads * m.floor_len; each : HoldFirst m l.targets l.rows l.h }

@@ -1,12 +1,11 @@
 -- The sources of a bank and its files, over plain variables.
 use Rattle.std.proofs.Common.{◌≡◌, ℕ, zero, suc, ◌+◌, ◌*◌, ◌≤◌, List, [], ◌∷◌, ◌++◌, map, refl, sym, ap, subst, ◌∙◌, arith, get_or, Some, Result, Ok, Err, slice_get, All, length}
 use Rattle.std.specs.List.{AllZip, IsDistinct, flat_map}
-use Rattle.std.specs.Result.{IfOk}
 use Rattle.std.specs.Str.{bytes_eq}
 use Rattle.std.proofs.lemmas.List.{length-append, map-append}
 use Rattle.std.proofs.lemmas.List.Folds.{flat_map-map}
 use Rattle.std.proofs.lemmas.Option.{slice_get_within, get_or_from_slice_get, slice_get-get_or}
-use Rattle.adpcm_nums.specs.Outcome.{Gives, ◌>>=◌}
+use Rattle.adpcm_nums.specs.Outcome.{Gives}
 use Rattle.adpcm_nums.proofs.OutcomeLaws.{went_on}
 use Rattle.host_files.specs.Outside.{World, Files, content_of}
 use Rattle.host_files.specs.declared.named_file.NamedFile.{NamedFile}
@@ -28,15 +27,16 @@ use Rattle.report_text.specs.declared.report.SampleReport.{SampleReport}
 use Rattle.command_plan.specs.declared.status.Status.{Status}
 use Rattle.command_plan.specs.declared.status.Status.TheVariants.{Full, Memory}
 use Rattle.command_plan.specs.Plan.{names_in, all_stored}
-use Rattle.command_plan.specs.Reading.{then_read, decided, read_each, status_of, Declines}
-use Rattle.command_plan.specs.Steps.{HasRead, Halts, ReadsTo}
+use Rattle.command_plan.specs.Read.{Read, as_reading, given, Reads}
+use Rattle.command_plan.specs.Reading.{Declines}
+use Rattle.command_plan.specs.Steps.{HasRead, Halts}
 use Rattle.command_plan.proofs.Kept.{kept_at}
-use Rattle.command_plan.proofs.Readings.{halts_first}
-use Rattle.command_plan.proofs.Tested.{tested_after}
+use Rattle.command_plan.proofs.ReadOn.{first_halts, then_reads, given_reads}
 use Rattle.bank_tool.specs.declared.source.Source.{Source}
 use Rattle.bank_tool.specs.Source.{rule_of}
 use Rattle.bank_tool.specs.Stored.{IsStored}
-use Rattle.bank_tool.specs.Compile.{each_of, source_in, source_reading, sources_in, sources_reading, bank_end, with_room, bank_names, effort_of, IsMadeOf}
+use Rattle.bank_tool.specs.Sources.{each_read, bank_end, with_room, sources_read}
+use Rattle.bank_tool.specs.Compile.{bank_names, effort_of, IsMadeOf}
 use Rattle.bank_tool.proofs.SourceSteps.{test-declines}
 
 room-declines : (kind : Kind) (bank : List ℕ) (base : ℕ) (sources : List Source) → Declines (with_room kind bank base sources)
@@ -45,34 +45,28 @@ room-declines Brr bank base sources = test-declines (is_past_end (bank_end base 
 room-declines Spu bank base sources = tt
 room-declines Ima bank base sources = tt
 
+-- the room for the sources that were read
+abbrev pub room_for : Content → List Source → Read (List Source)
+room_for m sources = given (with_room m.kind m.bank m.base sources)
+
+-- the same samples, read by the same rule
+same-each : (files : Files) (m : Content) (rule : FitRule) (entries : List SampleEntry) → rule ≡ rule_of m → entries ≡ m.samples → each_read files rule entries ≡ each_read files (rule_of m) m.samples
+same-each files m rule entries ruled e = ap (λ (r : FitRule). each_read files r entries) ruled ∙ ap (each_read files (rule_of m)) e
+
 -- one of the sources was refused
-pub sources_refused : (files : Files) (m : Content) (rule : FitRule) (entries : List SampleEntry) (a b : World) (s : Status) → rule ≡ rule_of m → entries ≡ m.samples → Halts (read_each (source_reading files rule) entries) a b s → Halts (sources_reading files m) a b s
+pub sources_refused : (files : Files) (m : Content) (rule : FitRule) (entries : List SampleEntry) (a b : World) (s : Status) → rule ≡ rule_of m → entries ≡ m.samples → Halts (as_reading (each_read files rule entries)) a b s → Halts (as_reading (sources_read files m)) a b s
 sources_refused files m rule entries a b s ruled e h =
-    let same = subst (λ (r : FitRule). Halts (read_each (source_reading files r) entries) a b s) ruled h in
-    halts_first (read_each (source_reading files (rule_of m)) m.samples) (decided (status_of (sources_in files m >>= with_room m.kind m.bank m.base))) a b s
-    (subst (λ (es : List SampleEntry). Halts (read_each (source_reading files (rule_of m)) es) a b s) e same)
-
--- the sources that were read
-record AreRead (files : Files) (m : Content) (sources : List Source) (a b : World) : Type 0 where
-  has : HasRead (read_each (source_reading files (rule_of m)) m.samples) a b
-  all : sources_in files m ≡ Ok sources
-
-are-read : (files : Files) (m : Content) (rule : FitRule) (entries : List SampleEntry) (sources : List Source) (a b : World) → rule ≡ rule_of m → entries ≡ m.samples
-    → HasRead (read_each (source_reading files rule) entries) a b → each_of (source_in files rule) entries ≡ Ok sources → AreRead files m sources a b
-are-read files m rule entries sources a b ruled e h each =
-    let same = subst (λ (r : FitRule). HasRead (read_each (source_reading files r) entries) a b) ruled h in
-    record {
-      has = subst (λ (es : List SampleEntry). HasRead (read_each (source_reading files (rule_of m)) es) a b) e same;
-      all = ap (each_of (source_in files (rule_of m))) (sym e) ∙ (ap (λ (r : FitRule). each_of (source_in files r) entries) (sym ruled) ∙ each);
-    }
+    first_halts (each_read files (rule_of m) m.samples) (room_for m) a b s
+    (subst (λ (x : Read (List Source)). Halts (as_reading x) a b s) (same-each files m rule entries ruled e) h)
 
 -- all were read, and there is room for them or not
-pub sources_tested : {V : Type 0} (items : V → List Source) (files : Files) (m : Content) (rule : FitRule) (entries : List SampleEntry) (bank : List ℕ) (v : V) (r : Result V Status) (a b : World) → rule ≡ rule_of m → entries ≡ m.samples → bank ≡ m.bank → HasRead (read_each (source_reading files rule) entries) a b → each_of (source_in files rule) entries ≡ Ok (items v) → IfOk r (λ w. w ≡ v) → Gives Memory items r (with_room m.kind bank m.base (items v)) → ReadsTo (sources_reading files m) a b r (λ w. sources_in files m ≡ Ok (items w))
-sources_tested items files m rule entries bank v r a b ruled e n h each same g =
-    let read = are-read files m rule entries (items v) a b ruled e h each in
-    let room = subst (λ (x : List ℕ). Gives Memory items r (with_room m.kind x m.base (items v))) n g in
-    subst (λ (x : Result (List Source) Status). ReadsTo (then_read (read_each (source_reading files (rule_of m)) m.samples) (decided (status_of (x >>= with_room m.kind m.bank m.base)))) a b r (λ w. sources_in files m ≡ Ok (items w))) (sym read.all)
-    (tested_after (read_each (source_reading files (rule_of m)) m.samples) items r (with_room m.kind m.bank m.base (items v)) v (λ w. sources_in files m ≡ Ok (items w)) a b read.has (room-declines m.kind m.bank m.base (items v)) room same read.all)
+pub sources_tested : {V : Type 0} (items : V → List Source) (files : Files) (m : Content) (rule : FitRule) (entries : List SampleEntry) (bank : List ℕ) (v : V) (r : Result V Status) (a b : World) → rule ≡ rule_of m → entries ≡ m.samples → bank ≡ m.bank
+    → HasRead (as_reading (each_read files rule entries)) a b → (each_read files rule entries).gives ≡ Ok (items v) → Gives Memory items r (with_room m.kind bank m.base (items v)) → Reads items (sources_read files m) a b r
+sources_tested items files m rule entries bank v r a b ruled e n h each g =
+    let same = same-each files m rule entries ruled e in
+    then_reads (each_read files (rule_of m) m.samples) (room_for m) (items v) items a b b r
+    (ap (λ (x : Read (List Source)). x.gives) (sym same) ∙ each) (subst (λ (x : Read (List Source)). HasRead (as_reading x) a b) same h)
+    (given_reads items r (with_room m.kind m.bank m.base (items v)) b (room-declines m.kind m.bank m.base (items v)) (subst (λ (x : List ℕ). Gives Memory items r (with_room m.kind x m.base (items v))) n g))
 
 -- what holds of all elements, at one place
 pub all_at : {X : Type 0} (P : X → Type 0) (xs : List X) (j : ℕ) (x : X) → All P xs → slice_get xs j ≡ Some x → P x

@@ -1,5 +1,5 @@
 -- What is read of the stored files, over plain variables.
-use Rattle.std.proofs.Common.{◌≡◌, ◌⊎◌, ℕ, ◌+◌, ◌≤◌, List, length, take, refl, sym, ap, subst, ◌∙◌, arith, inl, inr, Result, Ok, Err, nat_lt, cond, true, false}
+use Rattle.std.proofs.Common.{◌≡◌, ◌⊎◌, ℕ, ◌+◌, ◌≤◌, List, length, take, refl, ap, subst, ◌∙◌, arith, inl, inr, Result, Ok, Err, nat_lt, cond, true, false}
 use Rattle.std.specs.Result.{IfOk}
 use Rattle.std.proofs.lemmas.List.{length-take, take_all}
 use Rattle.adpcm_nums.specs.Outcome.{Gives}
@@ -9,15 +9,14 @@ use Rattle.loop_fit.specs.declared.fitted.Fitted.{Fitted}
 use Rattle.bank_kinds.specs.Codec.{Codec}
 use Rattle.bank_check.specs.Errors.{error_in, IsStoredError}
 use Rattle.command_plan.specs.declared.status.Status.{Status}
-use Rattle.command_plan.specs.declared.status.Status.TheVariants.{Done, Input, Refused, Memory}
+use Rattle.command_plan.specs.declared.status.Status.TheVariants.{Input, Refused, Memory}
 use Rattle.command_plan.specs.declared.input_fault.InputFault.{InputFault}
-use Rattle.command_plan.specs.Ending.{Declined, ending_of}
-use Rattle.command_plan.specs.Reading.{Reading, fetched, decided, status_of, Declines}
-use Rattle.command_plan.specs.Read.{Read, as_reading, fetched_for, given}
-use Rattle.command_plan.specs.Steps.{HasRead, Halts, ReadsTo}
-use Rattle.command_plan.proofs.Tested.{tested_first, tested_done, tested_refused}
-use Rattle.command_plan.proofs.Tests.{decides, decides_not}
-use Rattle.command_plan.proofs.Readings.{halts_short, waits_none, reads_nothing}
+use Rattle.command_plan.specs.Reading.{Reading, fetched, status_of, Declines}
+use Rattle.command_plan.specs.Read.{as_reading, fetched_for, given}
+use Rattle.command_plan.specs.Steps.{HasRead, ReadsTo}
+use Rattle.command_plan.proofs.Tests.{decides}
+use Rattle.command_plan.proofs.Readings.{reads_on}
+use Rattle.command_plan.proofs.ReadOn.{given_refused}
 use Rattle.command_plan.specs.declared.input_fault.InputFault.TheVariants.{FileLong}
 use Rattle.manifest_reader.specs.Meaning.{Content}
 use Rattle.bank_kinds.specs.Kinds.{codec_for}
@@ -25,55 +24,39 @@ use Rattle.bank_check.specs.Proven.{proven_of}
 use Rattle.bank_tool.specs.declared.source.Source.{Source}
 use Rattle.bank_tool.specs.Source.{front_in, or_told}
 use Rattle.bank_tool.specs.Check.{proven_in}
-use Rattle.bank_tool.proofs.SourceSteps.{test-declines}
-
--- a fault that is told is a refusal
-pub told-declines : {X E : Type 0} (tell : E → Status) (r : Result X E) → ((e : E) → ending_of (tell e) ≡ Declined) → Declines (or_told tell r)
-told-declines tell (Ok x) d = tt
-told-declines tell (Err e) d = d e
+use Rattle.bank_tool.proofs.SourceSteps.{told-declines, test-declines}
 
 -- of an error and of its list the same is refused
 same-fault : (d : Codec) (fitted : Fitted) (tell : InputFault → Status) (list : Result Blocks InputFault) (s : Status) → or_told tell (error_in d.rules.decoder fitted list) ≡ Err s → or_told tell list ≡ Err s
 same-fault d fitted tell (Ok l) s e = absurd (cc)
 same-fault d fitted tell (Err f) s e = let same : tell f ≡ s = cc in ap (λ z. Err z) same
 
--- what an answer says of a list
-record IsAnswer (c : Codec) (fitted : Fitted) (tell : InputFault → Status) (list : Result Blocks InputFault) (r : Result ℕ Status) : Type 0 where
-  ok : IfOk r (IsStoredError c fitted list)
-  gives : Gives Memory (λ e. e) r (or_told tell (error_in c.rules.decoder fitted list))
-
 answered : {E : Type 0} (c : Codec) (fitted : Fitted) (list : Result Blocks InputFault) (answer : Result ℕ E) (r : Result ℕ Status) → IfOk answer (IsStoredError c fitted list) → IfOk r (λ e. answer ≡ Ok e) → IfOk r (IsStoredError c fitted list)
 answered {E = E} c fitted list answer (Ok e) stored same = subst (λ (z : Result ℕ E). IfOk z (IsStoredError c fitted list)) same stored
 answered c fitted list answer (Err s) stored same = tt
 
--- a file of its own was fetched, and its list or its fault was found
+-- a list was looked at, or its fault was found
+list_reads : {E : Type 0} (c : Codec) (fitted : Fitted) (sample : List ℕ) (list : Result Blocks InputFault) (answer : Result ℕ E) (r : Result ℕ Status) (a : World) → IfOk answer (IsStoredError c fitted list) → IfOk r (λ e. answer ≡ Ok e)
+    → Gives Memory (λ e. e) r (or_told (λ f. Input sample f) (error_in c.rules.decoder fitted list)) → ReadsTo (as_reading (given (or_told (λ f. Input sample f) list))) a a r (IsStoredError c fitted list)
+list_reads c fitted sample list answer (Ok e) a stored same g =
+    let is = answered c fitted list answer (Ok e) stored same in
+    (decides (status_of (or_told (λ f. Input sample f) list)) a (ap status_of (ap (or_told (λ f. Input sample f)) is.list_is)), is)
+list_reads c fitted sample list answer (Err s) a stored same g =
+    given_refused (or_told (λ f. Input sample f) list) s a (told-declines (λ f. Input sample f) list (λ f. refl)) (elim g [ inl e ↦ inl e | inr e ↦ inr (same-fault c fitted (λ f. Input sample f) list s e) ])
+
+-- that of a file of its own, which was fetched
 pub own_reads : {E : Type 0} (c : Codec) (fitted : Fitted) (name sample : List ℕ) (list : Result Blocks InputFault) (answer : Result ℕ E) (r : Result ℕ Status) (a b : World) → HasRead (fetched name) a b
     → IfOk answer (IsStoredError c fitted list) → IfOk r (λ e. answer ≡ Ok e) → Gives Memory (λ e. e) r (or_told (λ f. Input sample f) (error_in c.rules.decoder fitted list))
     → ReadsTo (as_reading (fetched_for name (or_told (λ f. Input sample f) list))) a b r (IsStoredError c fitted list)
-own_reads c fitted name sample list answer (Ok e) a b h stored same g =
-    let is = answered c fitted list answer (Ok e) stored same in
-    (tested_done name (or_told (λ f. Input sample f) list) is.list a b h (ap (or_told (λ f. Input sample f)) is.list_is), is)
-own_reads c fitted name sample list answer (Err s) a b h stored same g =
-    tested_refused name (or_told (λ f. Input sample f) list) s a b h (told-declines (λ f. Input sample f) list (λ f. refl)) (elim g [ inl e ↦ inl e | inr e ↦ inr (same-fault c fitted (λ f. Input sample f) list s e) ])
+own_reads c fitted name sample list answer r a b h stored same g =
+    reads_on (fetched name) (as_reading (given (or_told (λ f. Input sample f) list))) a b b r (IsStoredError c fitted list) h (list_reads c fitted sample list answer r b stored same g)
 
-short : {T : Type 0} (read : Result T Status) (a : World) → Halts (decided (status_of read)) a a Memory
-short read a = halts_short (decided (status_of read)) a a 0 (omega arith) (waits_none a)
-
--- an entry of the image was looked at
+-- that of an entry of the image
 pub entry_reads : (c : Codec) (fitted : Fitted) (sample : List ℕ) (list : Result Blocks InputFault) (found : Result ℕ InputFault) (r : Result ℕ Status) (a : World) → found ≡ error_in c.rules.decoder fitted list
     → IfOk found (IsStoredError c fitted list) → IfOk r (λ e. found ≡ Ok e) → Gives Memory (λ e. e) r (or_told (λ f. Input sample f) found)
     → ReadsTo (as_reading (given (or_told (λ f. Input sample f) list))) a a r (IsStoredError c fitted list)
-entry_reads c fitted sample list found (Ok e) a value stored same g =
-    let is = answered c fitted list found (Ok e) stored same in
-    (decides (status_of (or_told (λ f. Input sample f) list)) a (ap status_of (ap (or_told (λ f. Input sample f)) is.list_is)), is)
-entry_reads c fitted sample list found (Err s) a value stored same g =
-    let tell : InputFault → Status = λ f. Input sample f in
-    let read = or_told tell list in
-    elim g as (λ _. Halts (decided (status_of read)) a a s) [
-      | inl e ↦ subst (λ (t : Status). Halts (decided (status_of read)) a a t) (sym e) (short read a)
-      | inr e ↦ (let err = same-fault c fitted tell list s (ap (or_told tell) (sym value) ∙ e) in
-          decides_not (status_of read) s s a (subst Declines err (told-declines tell list (λ f. refl))) (ap status_of err) (inr refl))
-    ]
+entry_reads c fitted sample list found r a value stored same g =
+    list_reads c fitted sample list found r a stored same (subst (λ (z : Result ℕ InputFault). Gives Memory (λ e. e) r (or_told (λ f. Input sample f) z)) value g)
 
 -- what else is known of a value that was read
 pub reads_with : {T : Type 0} (c : Reading) (a b : World) (r : Result T Status) (P Q : T → Type 0) → ReadsTo c a b r P → IfOk r Q → ReadsTo c a b r (λ v. P v × Q v)

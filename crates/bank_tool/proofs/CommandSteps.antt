@@ -1,8 +1,5 @@
 -- The cases of a command, over plain variables.
-use Rattle.std.proofs.Common.{◌≡◌, ◌∙◌, List, ℕ, map, true, false, sym, subst, Option, Some, None, refl, String, Global, string_bytes}
-use Rattle.std.specs.List.{list_all}
-use Rattle.std.proofs.lemmas.Bool.{cond-true, cond-false}
-use Rattle.std.proofs.lemmas.List.Folds.{list_all-map}
+use Rattle.std.proofs.Common.{◌≡◌, List, ℕ, sym, subst, Option, Some, None, refl}
 use Rattle.host_files.specs.Outside.{World, Files}
 use Rattle.command_plan.specs.declared.status.Status.{Status}
 use Rattle.command_plan.specs.declared.status.Status.TheVariants.{Words}
@@ -16,15 +13,14 @@ use Rattle.machine_core.specs.declared.state.Kind.{Kind}
 use Rattle.bank_tool.specs.Block.{block_course, targets_in, IsBlock, AnswersBlock}
 use Rattle.bank_tool.specs.Decompile.{decompile_course, entries_in, IsDecompiled, AnswersDecompile}
 use Rattle.bank_tool.proofs.DecompiledSteps.{answers_decompile, Sounds}
-use Rattle.bank_tool.specs.Play.{play_course, said_in, IsPlayed, AnswersPlay}
+use Rattle.bank_tool.specs.Played.{said_read, play_course, IsPlayed, AnswersPlay}
 use Rattle.bank_tool.proofs.PlaySteps.{answers_play}
 use Rattle.bank_tool.proofs.BlockSteps.{answers_block}
-use Rattle.bank_tool.specs.Words.{is_word, command_in, command_of}
-use Rattle.bank_tool.specs.Compile.{compile_course, compile_choice}
+use Rattle.bank_tool.specs.Compile.{compile_course, MayStore}
 use Rattle.bank_tool.specs.Compiled.{AnswersCompile}
 use Rattle.bank_tool.proofs.CompiledSteps.{answers_compile}
 use Rattle.bank_tool.specs.Check.{check_course}
-use Rattle.bank_tool.specs.Checked.{check_choice, AnswersCheck}
+use Rattle.bank_tool.specs.Checked.{MayTell, AnswersCheck}
 use Rattle.bank_tool.proofs.CheckedSteps.{answers_check}
 use Rattle.bank_tool.specs.Commands.{course_of, choice_of}
 
@@ -32,13 +28,6 @@ use Rattle.bank_tool.specs.Commands.{course_of, choice_of}
 pub no_command : (o : Option Command) (files : Files) (a d : World) (r : Status) → o ≡ None → Told (has_line (ending_of Words)) Words a d r → Promises (course_of o files) (choice_of o files) a d r
 no_command o files a d r e told =
     subst (λ (x : Option Command). Promises (course_of x files) (choice_of x files) a d r) (sym e) (refused_at_once (choice_of None files) a d Words r refl told)
-
--- words that may all stand in a command, and words that may not
-pub command_is : (words : List (String Global)) → list_all (λ word. is_word (string_bytes word)) words ≡ true → command_of (map string_bytes words) ≡ command_in (map string_bytes words)
-command_is words h = cond-true _ _ _ (list_all-map is_word string_bytes words ∙ h)
-
-pub command_is_not : (words : List (String Global)) → list_all (λ word. is_word (string_bytes word)) words ≡ false → command_of (map string_bytes words) ≡ None
-command_is_not words h = cond-false _ _ _ (list_all-map is_word string_bytes words ∙ h)
 
 -- words that are `block`
 pub block_answers : (o : Option Command) (files : Files) (input output : List ℕ) (a b : World) (r : Status) → o ≡ Some (Block input output) → Promises (course_of o files) (choice_of o files) a b r → AnswersBlock files input output a b r
@@ -68,10 +57,10 @@ block_obeys command files x y input output a b r is i o h =
     (subst (λ (n : List ℕ). Promises (block_course files n output) (IsBlock (targets_in files n) output) a b r) i h))
 
 -- a command that is `play`
-pub play_obeys : (command : Command) (files : Files) (kind : Kind) (x file : List ℕ) (entry count : ℕ) (a b : World) (r : Status) → command ≡ Play kind x entry count → file ≡ x → Promises (play_course files kind file entry count) (IsPlayed (said_in files kind file entry count)) a b r → Promises (course_of (Some command) files) (choice_of (Some command) files) a b r
+pub play_obeys : (command : Command) (files : Files) (kind : Kind) (x file : List ℕ) (entry count : ℕ) (a b : World) (r : Status) → command ≡ Play kind x entry count → file ≡ x → Promises (play_course files kind file entry count) (IsPlayed (said_read files kind file entry count).gives) a b r → Promises (course_of (Some command) files) (choice_of (Some command) files) a b r
 play_obeys command files kind x file entry count a b r is f h =
     subst (λ (m : Command). Promises (course_of (Some m) files) (choice_of (Some m) files) a b r) (sym is)
-    (subst (λ (n : List ℕ). Promises (play_course files kind n entry count) (IsPlayed (said_in files kind n entry count)) a b r) f h)
+    (subst (λ (n : List ℕ). Promises (play_course files kind n entry count) (IsPlayed (said_read files kind n entry count).gives) a b r) f h)
 
 -- a command that is `decompile`
 pub decompile_obeys : (command : Command) (files : Files) (kind : Kind) (x y file output : List ℕ) (a b : World) (r : Status) → command ≡ Decompile kind x y → file ≡ x → output ≡ y → Promises (decompile_course files kind file output) (IsDecompiled (entries_in files kind file) output) a b r → Promises (course_of (Some command) files) (choice_of (Some command) files) a b r
@@ -81,17 +70,17 @@ decompile_obeys command files kind x y file output a b r is f o h =
     (subst (λ (n : List ℕ). Promises (decompile_course files kind n output) (IsDecompiled (entries_in files kind n) output) a b r) f h))
 
 -- a command that is `compile`
-pub compile_obeys : (command : Command) (files : Files) (x manifest : List ℕ) (a b : World) (r : Status) → command ≡ Compile x → manifest ≡ x → Promises (compile_course files manifest) (compile_choice files manifest) a b r → Promises (course_of (Some command) files) (choice_of (Some command) files) a b r
+pub compile_obeys : (command : Command) (files : Files) (x manifest : List ℕ) (a b : World) (r : Status) → command ≡ Compile x → manifest ≡ x → Promises (compile_course files manifest) (MayStore files manifest) a b r → Promises (course_of (Some command) files) (choice_of (Some command) files) a b r
 compile_obeys command files x manifest a b r is m h =
     subst (λ (k : Command). Promises (course_of (Some k) files) (choice_of (Some k) files) a b r) (sym is)
-    (subst (λ (n : List ℕ). Promises (compile_course files n) (compile_choice files n) a b r) m h)
+    (subst (λ (n : List ℕ). Promises (compile_course files n) (MayStore files n) a b r) m h)
 
 -- words that are `check`
 pub check_answers : (o : Option Command) (files : Files) (manifest : List ℕ) (a b : World) (r : Status) → o ≡ Some (Check manifest) → Promises (course_of o files) (choice_of o files) a b r → AnswersCheck files manifest a b r
 check_answers o files manifest a b r e h = answers_check files manifest a b r (subst (λ (x : Option Command). Promises (course_of x files) (choice_of x files) a b r) e h)
 
 -- a command that is `check`
-pub check_obeys : (command : Command) (files : Files) (x manifest : List ℕ) (a b : World) (r : Status) → command ≡ Check x → manifest ≡ x → Promises (check_course files manifest) (check_choice files manifest) a b r → Promises (course_of (Some command) files) (choice_of (Some command) files) a b r
+pub check_obeys : (command : Command) (files : Files) (x manifest : List ℕ) (a b : World) (r : Status) → command ≡ Check x → manifest ≡ x → Promises (check_course files manifest) (MayTell files manifest) a b r → Promises (course_of (Some command) files) (choice_of (Some command) files) a b r
 check_obeys command files x manifest a b r is m h =
     subst (λ (k : Command). Promises (course_of (Some k) files) (choice_of (Some k) files) a b r) (sym is)
-    (subst (λ (n : List ℕ). Promises (check_course files n) (check_choice files n) a b r) m h)
+    (subst (λ (n : List ℕ). Promises (check_course files n) (MayTell files n) a b r) m h)

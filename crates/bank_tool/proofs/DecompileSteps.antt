@@ -1,7 +1,7 @@
 -- The command `decompile`, over plain variables.
-use Rattle.std.proofs.Common.{◌≡◌, ◌≢◌, ◌≤◌, ◌⊎◌, ℕ, ◌+◌, List, length, take, Bool, true, false, cond, nat_lt, refl, sym, ap, subst, ◌∙◌, inl, inr, Result, Ok, Err}
+use Rattle.std.proofs.Common.{◌≡◌, ◌≢◌, ◌≤◌, ◌⊎◌, ℕ, List, length, Bool, true, false, cond, nat_lt, refl, sym, ap, subst, ◌∙◌, inl, inr, Result, Ok, Err}
 use Rattle.adpcm_nums.specs.Outcome.{Gives, ◌>>=◌}
-use Rattle.host_files.specs.Outside.{World, Files, content_of, Rose}
+use Rattle.host_files.specs.Outside.{World, Files, Rose}
 use Rattle.host_files.specs.declared.named_file.NamedFile.{NamedFile}
 use Rattle.machine_core.specs.declared.state.Kind.{Kind}
 use Rattle.decompile_core.specs.declared.fault.DecompileFault.{DecompileFault}
@@ -14,15 +14,16 @@ use Rattle.command_plan.specs.declared.input_fault.InputFault.{InputFault}
 use Rattle.command_plan.specs.declared.input_fault.InputFault.TheVariants.{FileLong, TooMuch as OfMuch, Image as OfImage, Vag as OfVag, Ima as OfIma, Track as OfTrack}
 use Rattle.command_plan.specs.Ending.{is_device, ending_of}
 use Rattle.command_plan.specs.Plan.{names_in}
-use Rattle.command_plan.specs.Reading.{Reading, fetched, decided, then_read, writing_course, status_of, tested_reading}
-use Rattle.command_plan.specs.Steps.{Comes, Halts, HasRead, Keeps, ReadsTo, writing}
+use Rattle.command_plan.specs.Read.{as_reading, given, fetched_for, written_under, Reads}
+use Rattle.command_plan.specs.Reading.{fetched, status_of}
+use Rattle.command_plan.specs.Steps.{Comes, Halts, HasRead, Keeps, writing}
 use Rattle.command_plan.specs.Promise.{Reaches}
-use Rattle.command_plan.proofs.Readings.{halts_first, halts_next, halts_after}
-use Rattle.command_plan.proofs.Tests.{decides_not}
-use Rattle.command_plan.proofs.Tested.{tested_done}
-use Rattle.command_plan.proofs.Promised.{ends_written}
-use Rattle.bank_tool.specs.Play.{whole_in, front_of}
-use Rattle.bank_tool.specs.Decompile.{form_of, refusal_of, or_status, entries_from, entries_in, entries_reading, storing, decompile_course, IsDecompiled}
+use Rattle.command_plan.proofs.Readings.{reads_on}
+use Rattle.command_plan.proofs.ReadOn.{given_halts}
+use Rattle.command_plan.proofs.Tests.{decides}
+use Rattle.command_plan.proofs.Promised.{then_reaches, written}
+use Rattle.bank_tool.specs.Play.{whole_in}
+use Rattle.bank_tool.specs.Decompile.{form_of, refusal_of, or_status, entries_from, entries_read, entries_in, entries_reading, decompile_course, IsDecompiled}
 use Rattle.bank_tool.specs.EntryFiles.{entry_files}
 
 -- want of memory, or a fault of the file
@@ -74,28 +75,20 @@ keeps_read view a b file read (Err s) h later one = record {
   words = refused_as (λ t. t ≢ Words) file read s h one (λ e. cc) (λ fault e. cc);
 }
 
-no_memory_halts : {T : Type 0} (file : List ℕ) (read : Result T Status) (s : Status) (a b : World) → s ≡ Memory → HasRead (fetched file) a b → Halts (tested_reading file read) a b s
-no_memory_halts file read s a b e h =
-    subst (λ (t : Status). Halts (tested_reading file read) a b t) (sym e) (halts_first (fetched file) (decided (status_of read)) a b Memory (halts_after (fetched file) a b h))
-
-refusal_halts : {T : Type 0} (file : List ℕ) (read : Result T Status) (s : Status) (a b : World) → HasRead (fetched file) a b → read ≡ Err s → IsRefusal file s → Halts (tested_reading file read) a b s
-refusal_halts file read s a b h e is = elim is as (λ _. Halts (tested_reading file read) a b s) [
-  | inl none ↦ no_memory_halts file read s a b none h
-  | inr fault ↦ halts_next (fetched file) (decided (status_of read)) a b b s h (decides_not (status_of read) s s b (ap ending_of fault.1) (ap status_of e) (inr refl))
+given_entries : {X T : Type 0} (view : X → T) (file : List ℕ) (read : Result T Status) (r : Result X Status) (a : World) → Refuses file read → Gives Memory view r read → Reads view (given read) a a r
+given_entries view file read (Ok v) a k one = (decides (status_of read) a (ap status_of one), one)
+given_entries {T = T} view file read (Err s) a k one = elim one as (λ _. Halts (as_reading (given read)) a a s) [
+  | inl e ↦ given_halts read s a (inl e)
+  | inr e ↦
+      let is : IsRefusal file s = subst (Refuses {T = T} file) e k in elim is as (λ _. Halts (as_reading (given read)) a a s) [
+        | inl none ↦ given_halts read s a (inl none)
+        | inr fault ↦ given_halts read s a (inr (ap ending_of fault.1, e))
+      ]
 ]
 
 -- the file was fetched, and what it says decides
-pub reads_entries : {X T : Type 0} (view : X → T) (file : List ℕ) (read : Result T Status) (r : Result X Status) (a b : World) → HasRead (fetched file) a b → Refuses file read → Gives Memory view r read → ReadsTo (tested_reading file read) a b r (λ v. read ≡ Ok (view v))
-reads_entries view file read (Ok v) a b h k one = (tested_done file read (view v) a b h one, one)
-reads_entries {T = T} view file read (Err s) a b h k one = elim one as (λ _. Halts (tested_reading file read) a b s) [
-  | inl e ↦ no_memory_halts file read s a b e h
-  | inr e ↦ refusal_halts file read s a b h e (subst (Refuses {T = T} file) e k)
-]
-
--- the front that was fetched
-pub front_is : (files : Files) (file front : List ℕ) → front ≡ take (8388608 + 1) (content_of files file) → front ≡ front_of files file
-unfolding front_of
-front_is files file front e = e
+pub reads_entries : {X T : Type 0} (view : X → T) (file : List ℕ) (read : Result T Status) (r : Result X Status) (a b : World) → HasRead (fetched file) a b → Refuses file read → Gives Memory view r read → Reads view (fetched_for file read) a b r
+reads_entries view file read r a b h k one = reads_on (fetched file) (as_reading (given read)) a b b r (λ v. read ≡ Ok (view v)) h (given_entries view file read r b k one)
 
 -- its entries are stored and told
 pub stores_entries : (files : Files) (kind : Kind) (file output : List ℕ) (entries : List Recovered) (made ws : List NamedFile) (told line : List ℕ) (a m b : World) (s : Status) → ws ≡ made → line ≡ told → HasRead (entries_reading files kind file) a m → entries_in files kind file ≡ Ok entries → IsDecompiled (Ok entries) output made told → Comes (writing ws line) m b s → Reaches (decompile_course files kind file output) (IsDecompiled (entries_in files kind file) output) a b s
@@ -108,7 +101,6 @@ stores_entries files kind file output entries made ws told line a m b s same_fil
       told = same_lines ∙ is.told;
       kept = is.kept;
     } in
-    let with : entries_in files kind file ≡ Ok is.entries = read ∙ is.entries_are in
-    let course : storing output (entries_in files kind file) ≡ writing_course (names_in (entry_files output 0 is.entries)) = ap (storing output) with in
-    subst (λ (d : Reading). Reaches (then_read (entries_reading files kind file) d) (IsDecompiled (entries_in files kind file) output) a b s) (sym course)
-    (ends_written (entries_reading files kind file) (IsDecompiled (entries_in files kind file) output) (names_in (entry_files output 0 is.entries)) ws line a m b s h may (ap names_in may.files) r)
+    let May = IsDecompiled (entries_in files kind file) output in
+    then_reaches (entries_read files kind file) (λ es. written_under (names_in (entry_files output 0 es))) is.entries May a m b s (read ∙ is.entries_are) h
+    (written May (names_in (entry_files output 0 is.entries)) ws line m b s may (ap names_in may.files) r)

@@ -1,9 +1,8 @@
 -- What `decompile` has done, in its own words, over plain variables.
-use Rattle.std.proofs.Common.{◌≡◌, ◌≤◌, ◌<◌, ℕ, ◌+◌, List, length, take, get_or, Bool, true, false, cond, nat_lt, refl, sym, ap, subst, ◌∙◌, arith, inl, inr, Option, Some, None, Result, Ok, Err}
+use Rattle.std.proofs.Common.{◌≡◌, ◌≤◌, ◌<◌, ℕ, ◌+◌, List, length, take, get_or, Bool, true, false, cond, nat_lt, refl, sym, ap, subst, ◌∙◌, arith, Option, Some, None, Result, Ok, Err}
 use Rattle.std.proofs.lemmas.Bool.{ltb-false}
 use Rattle.std.proofs.lemmas.List.{length-take, take_all}
 use Rattle.std.proofs.lemmas.List.Elements.{All-get_or}
-use Rattle.std.proofs.lemmas.Grind.{common_steps}
 use Rattle.adpcm_nums.specs.Outcome.{Tells, ◌>>=◌}
 use Rattle.host_files.specs.Outside.{World, Files, content_of, grown, raised}
 use Rattle.wave_form.specs.Reading.{read_of}
@@ -14,18 +13,20 @@ use Rattle.decompile_core.specs.declared.recovered.Recovered.{Recovered}
 use Rattle.decompile_core.specs.Decompiled.{decompiled}
 use Rattle.decompile_core.specs.Heard.{IsHeard}
 use Rattle.command_plan.specs.declared.status.Status.{Status}
-use Rattle.command_plan.specs.declared.status.Status.TheVariants.{Done, Input, Memory}
+use Rattle.command_plan.specs.declared.status.Status.TheVariants.{Input, Memory}
 use Rattle.command_plan.specs.declared.input_fault.InputFault.TheVariants.{FileLong}
-use Rattle.command_plan.specs.Ending.{is_finished, ending_of}
 use Rattle.command_plan.specs.Plan.{names_in, all_stored}
-use Rattle.command_plan.specs.Reading.{then_read, writing_course, status_of, tested_reading}
+use Rattle.command_plan.specs.Read.{written_under}
+use Rattle.command_plan.specs.Reading.{status_of}
 use Rattle.command_plan.specs.Promise.{Promises, Finishes}
 use Rattle.command_plan.proofs.Kept.{kept_at}
+use Rattle.command_plan.proofs.ReadOn.{then-count, then-outcome, written-count}
 use Rattle.command_plan.proofs.Promised.{answers, done_is}
-use Rattle.bank_tool.specs.Play.{whole_in, front_of}
-use Rattle.bank_tool.specs.Decompile.{form_of, or_status, entries_from, entries_in, storing, decompile_course, IsDecompiled, HasDecompiled, AnswersDecompile}
+use Rattle.bank_tool.specs.Source.{front_in}
+use Rattle.bank_tool.specs.Play.{whole_in}
+use Rattle.bank_tool.specs.Decompile.{form_of, or_status, entries_from, entries_read, entries_in, decompile_course, IsDecompiled, HasDecompiled, AnswersDecompile}
 use Rattle.bank_tool.specs.EntryFiles.{entry_file, entry_files, entry_name, IsKept}
-use Rattle.bank_tool.proofs.DecompileSteps.{IsRefusal, Refuses, entries-refuses}
+use Rattle.bank_tool.proofs.FrontSteps.{front_set}
 use Rattle.bank_tool.proofs.EntryNames.{file_at, names_count, names_distinct}
 
 -- what was decompiled, where nothing is refused
@@ -48,34 +49,21 @@ short_front n bytes e =
     let size = length-take (n + 1) bytes in
     take_all (n + 1) bytes (omega (arith, short, size))
 
-whole : (files : Files) (file : List ℕ) → nat_lt 8388608 (length (front_of files file)) ≡ false → front_of files file ≡ content_of files file
-unfolding front_of
+whole : (files : Files) (file : List ℕ) → nat_lt 8388608 (length (front_in files file 8388608)) ≡ false → front_in files file 8388608 ≡ content_of files file
+unfolding front_in
 whole files file e = short_front 8388608 (content_of files file) e
 
 from_file : (files : Files) (kind : Kind) (file : List ℕ) (entries : List Recovered) → entries_in files kind file ≡ Ok entries → decompiled (form_of kind) (content_of files file) ≡ Ok entries
 from_file files kind file entries e =
-    let got = from_front kind file (front_of files file) entries e in
+    let got = from_front kind file (front_in files file 8388608) entries e in
     subst (λ (bytes : List ℕ). decompiled (form_of kind) bytes ≡ Ok entries) (whole files file got.0) got.1
 
--- the status that a file comes to decides
-unread : (file output : List ℕ) (s : Status) → IsRefusal file s → cond (is_finished (ending_of s)) Done s ≡ s
-unread file output s is = elim is as (λ _. cond (is_finished (ending_of s)) Done s ≡ s) [
-  | inl e ↦ subst (λ (t : Status). cond (is_finished (ending_of t)) Done t ≡ t) (sym e) refl
-  | inr fault ↦ subst (λ (t : Status). cond (is_finished (ending_of t)) Done t ≡ t) (sym fault.1) refl
-]
-
-outcome-is : (file output : List ℕ) (read : Result (List Recovered) Status) → Refuses file read → (then_read (tested_reading file read) (storing output read)).outcome ≡ status_of read
-outcome-is file output (Ok entries) h = refl
-outcome-is file output (Err s) h = unread file output s h
-
-counted : (file : List ℕ) (names : List (List ℕ)) (entries : List Recovered) (n : ℕ) → length names ≡ n → length (then_read (tested_reading file (Ok entries)) (writing_course names)).calls ≡ 1 + n + 1
-counted file names entries n e = grind (arith, common_steps)
-
 -- the calls of a run that ends well
-calls_are : (file output : List ℕ) (read : Result (List Recovered) Status) (entries : List Recovered) → read ≡ Ok entries → length (then_read (tested_reading file read) (storing output read)).calls ≡ 1 + length entries + 1
-calls_are file output read entries e =
-    ap (λ (r : Result (List Recovered) Status). length (then_read (tested_reading file r) (storing output r)).calls) e
-    ∙ counted file (names_in (entry_files output 0 entries)) entries (length entries) (names_count output entries)
+calls_are : (files : Files) (kind : Kind) (file output : List ℕ) (entries : List Recovered) → entries_in files kind file ≡ Ok entries → length (decompile_course files kind file output).calls ≡ 1 + length entries + 1
+calls_are files kind file output entries e =
+    let names = names_in (entry_files output 0 entries) in
+    let all = then-count (entries_read files kind file) (λ es. written_under (names_in (entry_files output 0 es))) entries e in
+    omega (arith, all, written-count names, names_count output entries)
 
 -- how entries sound
 abbrev pub Sounds : Type 0
@@ -92,7 +80,7 @@ has_decompiled held kind file output a b told sounds f =
       entries_are = are;
       files = files;
       said = f.said ∙ ap (grown a.said) f.may.told;
-      calls = f.calls ∙ ap (λ n. raised n a.calls) (calls_are file output (entries_in held kind file) entries f.may.entries_are);
+      calls = f.calls ∙ ap (λ n. raised n a.calls) (calls_are held kind file output entries f.may.entries_are);
       kept = λ after is j other h.
           let one : content_of after (entry_name output j) ≡ (entry_file output j (get_or entries j other)).bytes =
           kept_at held after (entry_files output 0 entries) j (entry_file output j (get_or entries j other)) (names_distinct output entries f.may.few) (file_at output entries j other h)
@@ -110,8 +98,9 @@ pub answers_decompile : (held : Files) (kind : Kind) (file output : List ℕ) (a
 answers_decompile held kind file output a b r told sounds h =
     let course = decompile_course held kind file output in
     let choice = IsDecompiled (entries_in held kind file) output in
-    let is : course.outcome ≡ status_of (entries_in held kind file) = outcome-is file output (entries_in held kind file) (entries-refuses kind file (front_of held file)) in
+    let is : course.outcome ≡ status_of (entries_in held kind file) = then-outcome (entries_read held kind file) (λ es. written_under (names_in (entry_files output 0 es))) (λ es. refl) in
     record {
       done = λ e. has_decompiled held kind file output a b told sounds (done_is course choice a b r h e);
       outcome = λ calm. subst (λ (s : Status). Tells Memory r s) is (answers course choice a b r h calm);
+      front = front_set course (entries_in held kind file) output a b r h;
     }

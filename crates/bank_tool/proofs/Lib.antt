@@ -6,6 +6,7 @@ pub mod PlaySteps
 pub mod EntrySteps
 pub mod DecompileSteps
 pub mod EntryNames
+pub mod FrontSteps
 pub mod DecompiledSteps
 pub mod GivenSteps
 pub mod CommandSteps
@@ -18,3 +19,7 @@ pub mod CheckReads
 pub mod CheckSteps
 pub mod CheckLoop
 pub mod CheckedSteps
+pub mod SplitSteps
+pub mod SplitForms
+pub mod GrammarSteps
+pub mod WordSteps

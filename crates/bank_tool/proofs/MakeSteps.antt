@@ -1,5 +1,5 @@
 -- How `make` comes to its report, over plain variables.
-use Rattle.std.proofs.Common.{◌≡◌, ℕ, ◌<◌, ◌≤◌, ◌^◌, List, ℤ, [], ◌∷◌, length, refl, sym, ap, subst, ◌∙◌, arith, inl, inr, Option, Some, None, pos, Result, Ok, Err, ◌==◌, if◌then◌else◌}
+use Rattle.std.proofs.Common.{◌≡◌, ℕ, ◌<◌, ◌≤◌, ◌^◌, List, ℤ, [], ◌∷◌, length, refl, sym, ap, subst, ◌∙◌, arith, inl, inr, Option, Some, None, pos, Ok, Err, ◌==◌, if◌then◌else◌}
 use Rattle.adpcm_nums.specs.Sample.{AreSamples}
 use Rattle.adpcm_nums.specs.declared.loop_at.LoopAt.{LoopAt}
 use Rattle.host_files.specs.Outside.{World, Files, grown}
@@ -27,16 +27,14 @@ use Rattle.command_plan.specs.declared.status.Status.{Status}
 use Rattle.command_plan.specs.declared.status.Status.TheVariants.{Memory}
 use Rattle.command_plan.specs.Plan.{Plan}
 use Rattle.command_plan.specs.Promise.{IsPlanOf, Reaches, Promises, Finishes}
-use Rattle.command_plan.specs.Reading.{nothing_read, writing_course}
 use Rattle.command_plan.specs.Steps.{Comes, writing}
-use Rattle.command_plan.proofs.Promised.{ends_written, ends_short, answers, done_is}
-use Rattle.command_plan.proofs.Readings.{reads_nothing}
+use Rattle.command_plan.proofs.Promised.{short_before, written, answers, done_is}
 use Rattle.bank_tool.specs.declared.words.Command.{Command}
 use Rattle.bank_tool.specs.declared.words.Command.TheVariants.{Make}
 use Rattle.bank_tool.specs.Commands.{course_of, choice_of}
 use Rattle.bank_tool.specs.Make.{made_rule, made_blocks, made_shown, make_course, IsMadeIn, IsMade, IsToldIn, HasMade, AnswersMake}
 use Rattle.bank_tool.proofs.PlaySteps.{unwritten_files}
-use Rattle.bank_tool.proofs.SourceSteps.{block_of}
+use Rattle.bank_tool.proofs.SourceSteps.{block_of, ok-one, ok-err}
 
 -- 256 bytes are a block of IMA ADPCM
 pub made_block : IsWithin 8 1024 4 256
@@ -93,9 +91,6 @@ fit-known samples Brr count = record { fitted = _; fits = fit-brr samples count;
 fit-known samples Spu count = record { fitted = _; fits = fit-spu samples count; blocks = refl; shown = refl }
 fit-known samples Ima count = record { fitted = _; fits = fit-ima samples count; blocks = refl; shown = refl }
 
-ok-err : {A E : Type 0} (r : Result A E) (x : A) (e : E) → r ≡ Ok x → r ≡ Err e → ⊥
-ok-err r x e good bad = cc
-
 -- so the test sound is not refused
 pub not-refused : (frames samples : List ℤ) (at : Option LoopAt) (rule : FitRule) (kind : Kind) (fault : FitFault) → length frames ≡ 1024 → samples ≡ frames → at ≡ Some second_half → rule ≡ made_rule kind
     → fit_of samples at rule ≡ Err fault → ⊥
@@ -108,15 +103,11 @@ not-refused frames samples at rule kind fault count s a r refused =
 -- the report is said
 pub make_comes : (number : ℕ) (line said : List ℕ) (a b : World) (s : Status) → IsMade number [] line → said ≡ line → Comes (writing [] said) a b s → Reaches make_course (IsMade number) a b s
 make_comes number line said a b s may same r =
-    ends_written nothing_read (IsMade number) [] [] said a a b s (reads_nothing a a refl) (subst (IsMade number []) (sym same) may) refl r
+    written (IsMade number) [] [] said a b s (subst (IsMade number []) (sym same) may) refl r
 
 -- there was no memory for it
 pub make_short : (number : ℕ) (a : World) → Reaches make_course (IsMade number) a a Memory
-make_short number a = ends_short nothing_read (writing_course []) (IsMade number) a a (reads_nothing a a refl)
-
--- two answers that are one
-ok-one : {A E : Type 0} (r : Result A E) (x y : A) → r ≡ Ok x → r ≡ Ok y → x ≡ y
-ok-one r x y one other = cc
+make_short number a = short_before make_course (IsMade number) a
 
 -- what is told of what was made
 told_in : (number : ℕ) (kind : Kind) (name : List ℕ) (out : SampleOut) → IsMadeIn number kind name out → IsToldIn number kind name out.report

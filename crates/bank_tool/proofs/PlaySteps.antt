@@ -1,11 +1,12 @@
 -- The command `play`, over plain variables.
+use Rattle.std.specs.Prelude.{⊤}
 use Rattle.std.proofs.Common.{◌≡◌, ◌≢◌, ◌≤◌, ◌⊎◌, ℕ, zero, suc, ◌+◌, ◌*◌, ◌/◌, ◌%◌, ◌==◌, ℤ, List, [], ◌++◌, length, take, Bool, true, false, cond, nat_lt, refl, sym, ap, subst, ◌∙◌, arith, inl, inr, Option, Some, None, Result, Ok, Err}
 use Rattle.std.proofs.lemmas.Bool.{cond-true, cond-false, eq-eqb, ne_eqb}
 use Rattle.std.proofs.lemmas.Option.{slice_get_within}
 use Rattle.std.proofs.lemmas.Nat.{div-add-mod'}
 use Rattle.adpcm_nums.specs.First.{first_where}
 use Rattle.adpcm_nums.specs.Outcome.{Tells, Gives, ◌>>=◌}
-use Rattle.host_files.specs.Outside.{World, Files, content_of, raised, Rose}
+use Rattle.host_files.specs.Outside.{World, Files, raised, Rose}
 use Rattle.host_files.specs.declared.named_file.NamedFile.{NamedFile}
 use Rattle.machine_core.specs.declared.state.Kind.{Kind}
 use Rattle.machine_core.specs.declared.state.Kind.TheVariants.{Brr, Spu, Ima}
@@ -32,15 +33,17 @@ use Rattle.command_plan.specs.declared.input_fault.InputFault.{InputFault}
 use Rattle.command_plan.specs.declared.input_fault.InputFault.TheVariants.{FileLong, NoEntry, TooMuch, Image as OfImage, Vag as OfVag, Ima as OfIma, Track as OfTrack}
 use Rattle.command_plan.specs.declared.status.HostCall.{HostCall}
 use Rattle.command_plan.specs.declared.status.HostCall.TheVariants.{Fetch, Store, Say}
-use Rattle.command_plan.specs.Ending.{Ending, Finished, Declined, Broken, Starved, is_device, is_finished, ending_of}
+use Rattle.command_plan.specs.Ending.{Ending, Finished, Declined, Broken, Starved, is_device, ending_of}
 use Rattle.command_plan.specs.Plan.{Plan, names_in, all_stored, SetBut, PartlySet, LeftAt, FollowsTo, Follows}
-use Rattle.command_plan.specs.Reading.{Reading, fetched, nothing_read, then_read, writing_course, status_of, tested_reading, Declines}
-use Rattle.command_plan.specs.Steps.{Comes, HasRead, Keeps, ReadsTo, writing}
+use Rattle.command_plan.specs.Read.{Read, as_reading, nothing, written_under}
+use Rattle.command_plan.specs.Reading.{Reading, status_of, Declines}
+use Rattle.command_plan.specs.Steps.{Comes, HasRead, Keeps, writing}
 use Rattle.command_plan.specs.Promise.{IsPlanOf, Reaches, Promises, Finishes}
-use Rattle.command_plan.proofs.Readings.{reads_next, reads_nothing}
-use Rattle.command_plan.proofs.Tested.{tested_done, tested_refused}
-use Rattle.command_plan.proofs.Promised.{answers, done_is, ends_silent, ends_written}
-use Rattle.bank_tool.specs.Play.{or_refused, whole_in, image_in, track_at, is_long, track_unless, track_in, vag_in, only_track, vag_track_in, ima_in, is_much, only_sound, ima_track_in, output_line, play_lines, image_said, vag_said, ima_said, said_by, said_of, front_of, said_in, play_reading, saying, play_course, IsPlayed, HasPlayed, AnswersPlay}
+use Rattle.command_plan.proofs.ReadOn.{then-count, then-outcome}
+use Rattle.command_plan.proofs.Promised.{answers, done_is, then_reaches, unsaid, written}
+use Rattle.bank_tool.specs.Source.{front_in}
+use Rattle.bank_tool.specs.Play.{or_refused, whole_in, image_in, track_at, is_long, track_unless, track_in, vag_in, only_track, vag_track_in, ima_in, is_much, only_sound, ima_track_in, output_line, play_lines, image_said, vag_said, ima_said, said_by, said_of}
+use Rattle.bank_tool.specs.Played.{said_read, saying, play_course, IsPlayed, HasPlayed, AnswersPlay}
 
 whole-of : (len align : ℕ) → len % align ≡ 0 → len ≡ len / align * align
 whole-of len align e = let all = div-add-mod' len align in omega (arith, all, e)
@@ -171,7 +174,8 @@ unfolding said_of
 said_of-refuses kind file entry count front =
     refuses_next file (whole_in file front) (λ bytes. said_by kind file entry count bytes) (whole_in-refuses file front) (λ bytes. said_by-refuses kind file entry count bytes)
 
-refuses-declines : {T : Type 0} (file : List ℕ) (read : Result T Status) → Refuses file read → Declines read
+-- so it is a refusal
+pub refuses-declines : {T : Type 0} (file : List ℕ) (read : Result T Status) → Refuses file read → Declines read
 refuses-declines file (Ok v) h = tt
 refuses-declines file (Err s) h = ap ending_of h.1
 
@@ -190,16 +194,6 @@ keeps_said a b file read (Err s) h later one = record {
   device = answer_is (λ t. is_device t ≡ true → Rose a.faults b.faults) file read s h one (λ e. cc) (λ fault e. cc);
   words = answer_is (λ t. t ≢ Words) file read s h one (λ e. cc) (λ fault e. cc);
 }
-
--- the file was fetched, and what it says decides
-pub reads_said : (file : List ℕ) (read r : Result (List ℕ) Status) (a b : World) → HasRead (fetched file) a b → Refuses file read → Gives Memory (λ lines. lines) r read → ReadsTo (tested_reading file read) a b r (λ lines. read ≡ Ok lines)
-reads_said file read (Ok v) a b h k one = (tested_done file read v a b h one, one)
-reads_said file read (Err s) a b h k one = tested_refused file read s a b h (refuses-declines file read k) one
-
--- the front that was fetched
-pub front_is : (files : Files) (file front : List ℕ) → front ≡ take (8388608 + 1) (content_of files file) → front ≡ front_of files file
-unfolding front_of
-front_is files file front e = e
 
 -- no outputs are no lines
 none_next : {A : Type 0} (r : Result A Status) (f : A → Result (List ℕ) Status) (lines : List ℕ) → ((v : A) → f v ≡ Ok lines → lines ≡ []) → (r >>= f) ≡ Ok lines → lines ≡ []
@@ -241,44 +235,45 @@ unfolding said_of
 said_none kind file entry front lines e = none_next (whole_in file front) (λ bytes. said_by kind file entry 0 bytes) lines (λ bytes. by_none kind file entry bytes lines) e
 
 -- with no outputs nothing is said
-pub plays_none : (files : Files) (kind : Kind) (file : List ℕ) (entry count : ℕ) (lines : List ℕ) (a b : World) → count ≡ 0 → HasRead (play_reading files kind file entry count) a b → said_in files kind file entry count ≡ Ok lines → Reaches (play_course files kind file entry count) (IsPlayed (said_in files kind file entry count)) a b Done
+pub plays_none : (files : Files) (kind : Kind) (file : List ℕ) (entry count : ℕ) (lines : List ℕ) (a b : World) → count ≡ 0 → HasRead (as_reading (said_read files kind file entry count)) a b → (said_read files kind file entry count).gives ≡ Ok lines
+    → Reaches (play_course files kind file entry count) (IsPlayed (said_read files kind file entry count).gives) a b Done
 plays_none files kind file entry count lines a b none h e =
-    let c = play_reading files kind file entry count in
-    let empty : lines ≡ [] = said_none kind file entry (front_of files file) lines (ap (λ n. said_of kind file entry n (front_of files file)) (sym none) ∙ e) in
-    let silent : saying count ≡ nothing_read = cond-true _ _ _ (eq-eqb count 0 none) in
-    subst (λ (d : Reading). Reaches (then_read c d) (IsPlayed (said_in files kind file entry count)) a b Done) (sym silent)
-    (ends_silent (then_read c nothing_read) (IsPlayed (said_in files kind file entry count)) a b (reads_next c nothing_read a b b h (reads_nothing b b refl)) (record { none = refl; told = e ∙ ap Ok empty }))
+    let c = said_read files kind file entry count in
+    let front = front_in files file 8388608 in
+    let empty : lines ≡ [] = said_none kind file entry front lines (ap (λ n. said_of kind file entry n front) (sym none) ∙ e) in
+    let silent : saying count ≡ nothing = cond-true _ _ _ (eq-eqb count 0 none) in
+    then_reaches c (λ ls. saying count) lines (IsPlayed c.gives) a b b Done e h
+    (subst (λ (d : Read ⊤). Reaches (as_reading d) (IsPlayed c.gives) b b Done) (sym silent) (unsaid (IsPlayed c.gives) b (record { none = refl; told = e ∙ ap Ok empty })))
 
 -- else they are said in one call
-pub plays_some : (files : Files) (kind : Kind) (file : List ℕ) (entry count : ℕ) (lines line : List ℕ) (a m b : World) (s : Status) → (count ≡ 0 → ⊥) → HasRead (play_reading files kind file entry count) a m → said_in files kind file entry count ≡ Ok lines → line ≡ lines → Comes (writing [] line) m b s → Reaches (play_course files kind file entry count) (IsPlayed (said_in files kind file entry count)) a b s
+pub plays_some : (files : Files) (kind : Kind) (file : List ℕ) (entry count : ℕ) (lines line : List ℕ) (a m b : World) (s : Status) → (count ≡ 0 → ⊥) → HasRead (as_reading (said_read files kind file entry count)) a m → (said_read files kind file entry count).gives ≡ Ok lines
+    → line ≡ lines → Comes (writing [] line) m b s → Reaches (play_course files kind file entry count) (IsPlayed (said_read files kind file entry count).gives) a b s
 plays_some files kind file entry count lines line a m b s some h e same r =
-    let c = play_reading files kind file entry count in
-    let loud : saying count ≡ writing_course [] = cond-false _ _ _ (ne_eqb count 0 some) in
-    subst (λ (d : Reading). Reaches (then_read c d) (IsPlayed (said_in files kind file entry count)) a b s) (sym loud)
-    (ends_written c (IsPlayed (said_in files kind file entry count)) [] [] line a m b s h (record { none = refl; told = e ∙ ap Ok (sym same) }) refl r)
+    let c = said_read files kind file entry count in
+    let loud : saying count ≡ written_under [] = cond-false _ _ _ (ne_eqb count 0 some) in
+    then_reaches c (λ ls. saying count) lines (IsPlayed c.gives) a m b s e h
+    (subst (λ (d : Read ⊤). Reaches (as_reading d) (IsPlayed c.gives) m b s) (sym loud) (written (IsPlayed c.gives) [] [] line m b s (record { none = refl; told = e ∙ ap Ok (sym same) }) refl r))
 
-saying-done : (b : Bool) → (cond b nothing_read (writing_course [])).outcome ≡ Done
+saying-done : (b : Bool) → status_of (cond b nothing (written_under [])).gives ≡ Done
 saying-done true = refl
 saying-done false = refl
 
 -- what the file says decides how it ends
-course-is : (file : List ℕ) (said : Result (List ℕ) Status) (count : ℕ) → Declines said → (then_read (tested_reading file said) (saying count)).outcome ≡ status_of said
-course-is file (Ok lines) count d = saying-done (count == 0)
-course-is file (Err s) count d = ap (λ e. cond (is_finished e) (saying count).outcome s) d
+course-is : (files : Files) (kind : Kind) (file : List ℕ) (entry count : ℕ) → (play_course files kind file entry count).outcome ≡ status_of (said_read files kind file entry count).gives
+course-is files kind file entry count = then-outcome (said_read files kind file entry count) (λ ls. saying count) (λ ls. saying-done (count == 0))
 
-calls_are : (file lines : List ℕ) (said : Result (List ℕ) Status) (b : Bool) → said ≡ Ok lines → length (then_read (tested_reading file said) (cond b nothing_read (writing_course []))).calls ≡ cond b 1 2
-calls_are file lines (Ok v) true e = refl
-calls_are file lines (Ok v) false e = refl
-calls_are file lines (Err s) b e = cc
+saying-count : (b : Bool) → 1 + length (cond b nothing (written_under [])).calls ≡ cond b 1 2
+saying-count true = refl
+saying-count false = refl
 
 -- what was done at `Done`
-has_played : (held : Files) (kind : Kind) (file : List ℕ) (entry count : ℕ) (a b : World) → Finishes (play_course held kind file entry count) (IsPlayed (said_in held kind file entry count)) a b → HasPlayed held kind file entry count a b
+has_played : (held : Files) (kind : Kind) (file : List ℕ) (entry count : ℕ) (a b : World) → Finishes (play_course held kind file entry count) (IsPlayed (said_read held kind file entry count).gives) a b → HasPlayed held kind file entry count a b
 has_played held kind file entry count a b f = record {
   lines = f.line;
   told = f.may.told;
   files = f.files ∙ ap (all_stored a.files) f.may.none;
   said = f.said;
-  calls = f.calls ∙ ap (λ n. raised n a.calls) (calls_are file f.line (said_in held kind file entry count) (count == 0) f.may.told);
+  calls = f.calls ∙ ap (λ n. raised n a.calls) (then-count (said_read held kind file entry count) (λ ls. saying count) f.line f.may.told ∙ saying-count (count == 0));
 }
 
 -- where no file is to be stored, none is the next one
@@ -322,13 +317,12 @@ stores_none : (course : Reading) (said : Result (List ℕ) Status) (r : Status) 
 stores_none course said r p is = elim is.choice [ inl may ↦ may.none | inr early ↦ early.1 ]
 
 -- what the promise says in the command's own words
-pub answers_play : (held : Files) (kind : Kind) (file : List ℕ) (entry count : ℕ) (a b : World) (r : Status) → Promises (play_course held kind file entry count) (IsPlayed (said_in held kind file entry count)) a b r → AnswersPlay held kind file entry count a b r
+pub answers_play : (held : Files) (kind : Kind) (file : List ℕ) (entry count : ℕ) (a b : World) (r : Status) → Promises (play_course held kind file entry count) (IsPlayed (said_read held kind file entry count).gives) a b r → AnswersPlay held kind file entry count a b r
 answers_play held kind file entry count a b r h =
-    let said = said_in held kind file entry count in
+    let said = (said_read held kind file entry count).gives in
     let course = play_course held kind file entry count in
-    let is : course.outcome ≡ status_of said = course-is file said count (refuses-declines file said (said_of-refuses kind file entry count (front_of held file))) in
     record {
       files = unwritten_files h.0 a b r (stores_none course said r h.0 h.1) h.2;
       done = λ e. has_played held kind file entry count a b (done_is course (IsPlayed said) a b r h e);
-      outcome = λ calm. subst (λ (s : Status). Tells Memory r s) is (answers course (IsPlayed said) a b r h calm);
+      outcome = λ calm. subst (λ (s : Status). Tells Memory r s) (course-is held kind file entry count) (answers course (IsPlayed said) a b r h calm);
     }

@@ -27,15 +27,13 @@ use Rattle.command_plan.specs.declared.status.Status.TheVariants.{Manifest, Inpu
 use Rattle.command_plan.specs.declared.input_fault.InputFault.TheVariants.{Wave as WaveInput, Loop, FileLong}
 use Rattle.command_plan.specs.Ending.{Declined, ending_of}
 use Rattle.command_plan.specs.Reading.{Declines}
-use Rattle.command_plan.proofs.ReadEach.{map_more}
 use Rattle.command_plan.proofs.Fronts.{take-next}
 use Rattle.bank_tool.specs.declared.source.Source.{Source}
 use Rattle.bank_tool.specs.Ready.{IsReady, IsReadyBy}
-use Rattle.bank_tool.specs.Compile.{each_of}
 use Rattle.bank_tool.specs.Source.{front_in, or_told, manifest_in, sound_in, loop_in, fit_in, source_of}
 
 -- a fault that is told is a refusal
-told-declines : {X E : Type 0} (tell : E → Status) (r : Result X E) → ((e : E) → ending_of (tell e) ≡ Declined) → Declines (or_told tell r)
+pub told-declines : {X E : Type 0} (tell : E → Status) (r : Result X E) → ((e : E) → ending_of (tell e) ≡ Declined) → Declines (or_told tell r)
 told-declines tell (Ok x) d = tt
 told-declines tell (Err e) d = d e
 
@@ -105,14 +103,6 @@ is_source held samples at rule same count range inside block = subst (λ (xs : L
   block = block;
 })
 
--- values that were read one by one
-pub each_zip : {X Y E : Type 0} (f : X → Result Y E) (xs : List X) (ys : List Y) → AllZip (λ x y. f x ≡ Ok y) xs ys → each_of f xs ≡ Ok ys
-unfolding each_of
-each_zip f [] [] h = refl
-each_zip f [] (y ∷ ys) h = absurd h
-each_zip f (x ∷ xs) [] h = absurd h
-each_zip f (x ∷ xs) (y ∷ ys) h = rw h.0 (rw (each_zip f xs ys h.1) refl)
-
 -- none yet
 pub zip_none : {X Y : Type 0} (R : X → Y → Type 0) (ys : List Y) → ys ≡ [] → AllZip R [] ys
 zip_none {X = X} {Y = Y} R ys e = subst (λ (zs : List Y). AllZip R [] zs) (sym e) tt
@@ -124,12 +114,6 @@ zip_push R [] (b ∷ ys) x y h one = absurd h
 zip_push R (a ∷ xs) [] x y h one = absurd h
 zip_push R (a ∷ xs) (b ∷ ys) x y h one = (h.0, zip_push R xs ys x y h.1 one)
 
--- one more, which stands at place k
-pub zip_more : {X Y : Type 0} (R : X → Y → Type 0) (xs : List X) (ys more : List Y) (k : ℕ) (x : X) (y : Y) → slice_get xs k ≡ Some x → more ≡ ys ++ y ∷ [] → AllZip R (take k xs) ys → R x y → AllZip R (take (k + 1) xs) more
-zip_more {X = X} {Y = Y} R xs ys more k x y at e h one =
-    subst (λ (zs : List X). AllZip R zs more) (sym (take-next xs k x at))
-    (subst (λ (zs : List Y). AllZip R (take k xs ++ x ∷ []) zs) (sym e) (zip_push R (take k xs) ys x y h one))
-
 -- one more, counted
 pub count_more : {Y : Type 0} (ys more : List Y) (k : ℕ) (y : Y) → more ≡ ys ++ y ∷ [] → length ys ≡ k → length more ≡ k + 1
 count_more ys more k y e n = grind (arith, common_steps)
@@ -137,6 +121,9 @@ count_more ys more k y e n = grind (arith, common_steps)
 map_push : {Y Z : Type 0} (f : Y → Z) (ys : List Y) (y : Y) → map f (ys ++ y ∷ []) ≡ map f ys ++ f y ∷ []
 map_push f [] y = refl
 map_push f (z ∷ ys) y = ap (λ zs. f z ∷ zs) (map_push f ys y)
+
+map_more : {X Y : Type 0} (g : X → Y) (xs : List X) (k : ℕ) (x : X) (ys : List Y) (y : Y) → slice_get xs k ≡ Some x → ys ≡ map g (take k xs) → y ≡ g x → ys ++ y ∷ [] ≡ map g (take (k + 1) xs)
+map_more g xs k x ys y at e h = let next = take-next xs k x at in grind (arith, common_steps)
 
 -- one more, seen alike in both lists
 pub alike_more : {X Y Z : Type 0} (f : Y → Z) (g : X → Z) (xs : List X) (ys more : List Y) (k : ℕ) (x : X) (y : Y) → slice_get xs k ≡ Some x → more ≡ ys ++ y ∷ [] → map f ys ≡ map g (take k xs) → f y ≡ g x → map f more ≡ map g (take (k + 1) xs)
@@ -161,3 +148,10 @@ map_same (x ∷ xs) = ap (λ ys. x ∷ ys) (map_same xs)
 -- nothing fails of no element
 pub all_none : {X : Type 0} (P : X → Type 0) (xs : List X) → xs ≡ [] → All P xs
 all_none P xs e = λ k d h. absurd (omega (arith, h, ap length e))
+
+-- an answer is one value or one refusal
+pub ok-one : {A E : Type 0} (r : Result A E) (x y : A) → r ≡ Ok x → r ≡ Ok y → x ≡ y
+ok-one r x y one other = cc
+
+pub ok-err : {A E : Type 0} (r : Result A E) (x : A) (e : E) → r ≡ Ok x → r ≡ Err e → ⊥
+ok-err r x e good bad = cc

@@ -1,5 +1,5 @@
 -- The command `block`: one file of sixteen samples becomes one block of filter 0.
-use Rattle.std.specs.Prelude.{false, ◌≡◌, ℕ, ◌≤◌, ◌==◌, min, if◌then◌else◌, ℤ, List, [], ◌∷◌, length}
+use Rattle.std.specs.Prelude.{false, ◌≡◌, ℕ, ◌≤◌, ◌==◌, min, if◌then◌else◌, ℤ, List, [], ◌∷◌, length, Result, Ok, Err}
 use Rattle.adpcm_nums.specs.Outcome.{Tells}
 use Rattle.machine_core.specs.Blocks.{Blocks, IsLegal, first_only}
 use Rattle.machine_core.specs.Sums.{sum_of}
@@ -13,21 +13,25 @@ use Rattle.command_plan.specs.declared.status.Status.{Status}
 use Rattle.command_plan.specs.declared.status.Status.TheVariants.{Done, Input, Memory}
 use Rattle.command_plan.specs.declared.input_fault.InputFault.TheVariants.{BlockLength}
 use Rattle.command_plan.specs.Ending.{is_device}
-use Rattle.command_plan.specs.Reading.{Reading, then_read, decided, whole_reading, writing_course}
+use Rattle.command_plan.specs.Read.{Read, as_reading, given, whole_read, ◌>>=◌, written_under}
+use Rattle.command_plan.specs.Reading.{Reading}
 use Rattle.bank_tool.specs.Samples.{samples_of}
 
--- a file of this many bytes is a raw block, or it is not
-abbrev pub length_outcome : List ℕ → ℕ → Status
-length_outcome input len = if len == 32 then Done else Input input (BlockLength len)
+-- the samples of a raw block, which has 32 bytes
+abbrev pub raw_in : List ℕ → List ℕ → Result (List ℤ) Status
+raw_in input bytes = if length bytes == 32 then Ok (samples_of bytes) else Err (Input input (BlockLength (length bytes)))
 
--- the file is fetched, and must have 32 bytes; 33 stands for more
-abbrev pub block_reading : Files → List ℕ → Reading
-block_reading files input =
-    then_read (whole_reading files input 32 (BlockLength 33)) (decided (length_outcome input (length (content_of files input))))
+-- the file is fetched, and must be one; 33 bytes stand for more
+abbrev pub targets_read : Files → List ℕ → Read (List ℤ)
+targets_read files input = do
+  bytes ← whole_read files input 32 (BlockLength 33)
+  given (raw_in input bytes)
 
 -- then a block is stored, and its line said
 abbrev pub block_course : Files → List ℕ → List ℕ → Reading
-block_course files input output = then_read (block_reading files input) (writing_course (output ∷ []))
+block_course files input output = as_reading (do
+  targets ← targets_read files input
+  written_under (output ∷ []))
 
 -- the samples of the file
 abbrev pub targets_in : Files → List ℕ → List ℤ
@@ -48,6 +52,10 @@ pub record IsBlock (targets : List ℤ) (output : List ℕ) (writes : List Named
   -- the block is one of filter 0, and none of them has a smaller error
   pub legal : IsLegal brr 1 first_only (zero_block targets)
   pub least : (list : Blocks) → IsLegal brr 1 first_only list → error_of targets ≤ sum_of brr list targets 1
+
+-- a file of this many bytes is a raw block, or it is not
+abbrev pub length_outcome : List ℕ → ℕ → Status
+length_outcome input len = if len == 32 then Done else Input input (BlockLength len)
 
 -- how `block` ends, where the host does not fail and memory does not run out; 33 stands for more bytes
 abbrev pub block_outcome : Files → List ℕ → Status

@@ -1,8 +1,7 @@
 -- The command `check`: the stored files of a bank are compared with its sources, and its certificates are tested.
-use Rattle.std.specs.Prelude.{ℕ, nat_lt, if◌then◌else◌, List, [], ◌∷◌, ◌++◌, length, Result, Ok, Err}
+use Rattle.std.specs.Prelude.{⊤, ℕ, nat_lt, if◌then◌else◌, List, [], ◌∷◌, ◌++◌, length, Result, Ok, Err}
 use Rattle.std.specs.List.{flat_map}
 use Rattle.host_files.specs.Outside.{Files}
-use Rattle.host_files.specs.declared.named_file.NamedFile.{NamedFile}
 use Rattle.machine_core.specs.declared.state.Kind.{Kind}
 use Rattle.machine_core.specs.declared.state.Kind.TheVariants.{Brr, Spu, Ima}
 use Rattle.machine_core.specs.Blocks.{Blocks}
@@ -22,12 +21,11 @@ use Rattle.command_plan.specs.declared.status.HostCall.{HostCall}
 use Rattle.command_plan.specs.declared.status.HostCall.TheVariants.{Fetch}
 use Rattle.command_plan.specs.declared.input_fault.InputFault.{InputFault}
 use Rattle.command_plan.specs.declared.input_fault.InputFault.TheVariants.{FileLong}
-use Rattle.command_plan.specs.Reading.{Reading, nothing_read, then_read, writing_course, tested_reading}
-use Rattle.command_plan.specs.Read.{Read, as_reading, given, fetched_for, ◌>>=◌, read_all}
-use Rattle.command_plan.specs.Promise.{Choice}
+use Rattle.command_plan.specs.Reading.{Reading}
+use Rattle.command_plan.specs.Read.{Read, as_reading, given, fetched_for, ◌>>=◌, read_all, written_under}
 use Rattle.bank_tool.specs.declared.source.Source.{Source}
 use Rattle.bank_tool.specs.Source.{front_in, or_told}
-use Rattle.bank_tool.specs.Compile.{meaning_in, sources_in, sources_reading}
+use Rattle.bank_tool.specs.Sources.{manifest_read, sources_read}
 
 -- a bank in files of its own has no image
 abbrev pub no_image : Image
@@ -91,19 +89,13 @@ bank_read files m sources = do
 unfoldable pub check_text : List SampleReport → List ℕ
 check_text reports = flat_map sample_line reports ++ done_line (length reports) 0
 
--- what is done for sources that were read, where they were
-abbrev pub checked_by : Files → Content → Result (List Source) Status → Reading
-checked_by files m (Ok sources) = then_read (as_reading (bank_read files m sources)) (writing_course [])
-checked_by files m (Err s) = nothing_read
+-- what is done for a manifest that was read: its sources are read, then what is stored for them, and then the report is said
+abbrev pub check_bank : Files → Content → Read ⊤
+check_bank files m = do
+  sources ← sources_read files m
+  reports ← bank_read files m sources
+  written_under []
 
--- the sources are read as for `compile`, and then what is stored
-abbrev pub check_bank : Files → Content → Reading
-check_bank files m = then_read (sources_reading files m) (checked_by files m (sources_in files m))
-
-abbrev pub check_by : Files → Result Content Status → Reading
-check_by files (Ok m) = check_bank files m
-check_by files (Err s) = nothing_read
-
--- the manifest is fetched and read, then the files that it names, then those that are stored, and then the report is said
+-- the manifest is read, then the files that it names and those that are stored, and then the report is said
 abbrev pub check_course : Files → List ℕ → Reading
-check_course files manifest = then_read (tested_reading manifest (meaning_in files manifest)) (check_by files (meaning_in files manifest))
+check_course files manifest = as_reading (manifest_read files manifest >>= check_bank files)

@@ -1,5 +1,5 @@
 -- What `check` promises and answers, in its own words: all of it is said of the stored files, whoever made them, of the sources and of the told numbers.
-use Rattle.std.specs.Prelude.{◌≡◌, ◌≤◌, false, ℕ, List, [], length, slice_get, Some, Ok, Err, Result}
+use Rattle.std.specs.Prelude.{◌≡◌, ◌≤◌, false, ℕ, List, [], length, slice_get, Some, Ok}
 use Rattle.std.specs.Bool.{⊤}
 use Rattle.adpcm_nums.specs.Outcome.{Tells}
 use Rattle.host_files.specs.Outside.{World, Files, content_of, grown, raised}
@@ -21,9 +21,8 @@ use Rattle.bank_kinds.specs.Certified.{IsCertified}
 use Rattle.command_plan.specs.declared.status.Status.{Status}
 use Rattle.command_plan.specs.declared.status.Status.TheVariants.{Done, Memory}
 use Rattle.command_plan.specs.Ending.{is_device}
-use Rattle.command_plan.specs.Promise.{Choice}
 use Rattle.bank_tool.specs.declared.source.Source.{Source}
-use Rattle.bank_tool.specs.Compile.{meaning_in, sources_in}
+use Rattle.bank_tool.specs.Sources.{manifest_read, sources_read}
 use Rattle.bank_tool.specs.Check.{image_by, stored_by, bank_read, check_text, check_course}
 
 -- an image has this many entries, where the format of the bank has one
@@ -84,25 +83,21 @@ pub record IsCheck (files : Files) (m : Content) (sources : List Source) (writes
   pub reported : IsReported files m sources reports
   pub told : line ≡ check_text reports
 
--- what may be said for a manifest that was read
-abbrev pub check_choice_of : Files → Content → Choice
-check_choice_of files m = λ writes line. (sources : List Source) × (sources_in files m ≡ Ok sources) × IsCheck files m sources writes line
-
-abbrev pub check_choice_by : Files → Result Content Status → Choice
-check_choice_by files (Ok m) = check_choice_of files m
-check_choice_by files (Err s) = λ writes line. ⊥
-
--- nothing is stored; this is the report that may be said
-abbrev pub check_choice : Files → List ℕ → Choice
-check_choice files manifest = check_choice_by files (meaning_in files manifest)
+-- nothing is stored; this is the report that `check` may say
+pub record MayTell (files : Files) (manifest : List ℕ) (writes : List NamedFile) (line : List ℕ) : Type 0 where
+  pub content : Content
+  pub meaning : (manifest_read files manifest).gives ≡ Ok content
+  pub sources : List Source
+  pub read : (sources_read files content).gives ≡ Ok sources
+  pub check : IsCheck files content sources writes line
 
 -- what `check` has done where it ends well; `held` are the files
 pub record HasChecked (held : Files) (manifest : List ℕ) (a b : World) : Type 0 where
   -- what the manifest says, and the sources that it names, fitted to blocks
   pub content : Content
-  pub meaning : meaning_in held manifest ≡ Ok content
+  pub meaning : (manifest_read held manifest).gives ≡ Ok content
   pub sources : List Source
-  pub read : sources_in held content ≡ Ok sources
+  pub read : (sources_read held content).gives ≡ Ok sources
   -- what is stored for each of them, its exact error, and the bound that its certificate shows
   pub line : List ℕ
   pub check : IsCheck held content sources [] line

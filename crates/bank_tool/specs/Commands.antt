@@ -7,11 +7,11 @@ use Rattle.command_plan.specs.Promise.{Choice}
 use Rattle.bank_tool.specs.declared.words.Command.{Command}
 use Rattle.bank_tool.specs.declared.words.Command.TheVariants.{Block, Compile, Check, Decompile, Play, Make}
 use Rattle.bank_tool.specs.Block.{block_course, targets_in, IsBlock}
-use Rattle.bank_tool.specs.Compile.{compile_course, compile_choice}
+use Rattle.bank_tool.specs.Compile.{compile_course, MayStore}
 use Rattle.bank_tool.specs.Check.{check_course}
-use Rattle.bank_tool.specs.Checked.{check_choice}
+use Rattle.bank_tool.specs.Checked.{MayTell}
 use Rattle.bank_tool.specs.Decompile.{decompile_course, entries_in, IsDecompiled}
-use Rattle.bank_tool.specs.Play.{play_course, said_in, IsPlayed}
+use Rattle.bank_tool.specs.Played.{said_read, play_course, IsPlayed}
 use Rattle.bank_tool.specs.Make.{make_course, IsMade}
 
 -- the calls of the host in order, and how it ends
@@ -28,8 +28,8 @@ course_of (Some (Make number)) files = make_course
 abbrev pub choice_of : Option Command → Files → Choice
 choice_of None files = λ writes line. ⊥
 choice_of (Some (Block input output)) files = IsBlock (targets_in files input) output
-choice_of (Some (Compile manifest)) files = compile_choice files manifest
-choice_of (Some (Check manifest)) files = check_choice files manifest
+choice_of (Some (Compile manifest)) files = MayStore files manifest
+choice_of (Some (Check manifest)) files = MayTell files manifest
 choice_of (Some (Decompile kind file output)) files = IsDecompiled (entries_in files kind file) output
-choice_of (Some (Play kind file entry count)) files = IsPlayed (said_in files kind file entry count)
+choice_of (Some (Play kind file entry count)) files = IsPlayed (said_read files kind file entry count).gives
 choice_of (Some (Make number)) files = IsMade number

@@ -9,15 +9,16 @@ use Rattle.command_plan.specs.declared.status.Status.TheVariants.{Done, Memory}
 use Rattle.command_plan.specs.Ending.{is_device}
 use Rattle.command_plan.specs.Plan.{all_stored}
 use Rattle.bank_tool.specs.declared.source.Source.{Source}
-use Rattle.bank_tool.specs.Compile.{meaning_in, sources_in, bank_names, AllStored, IsBank, compile_course}
+use Rattle.bank_tool.specs.Sources.{manifest_read, sources_read}
+use Rattle.bank_tool.specs.Compile.{bank_names, AllStored, IsBank, compile_course}
 
 -- what `compile` has done where it ends well; `held` are the files before
 pub record HasCompiled (held : Files) (manifest : List ℕ) (a b : World) : Type 0 where
   -- what the manifest says, and the sources that it names, fitted to blocks
   pub content : Content
-  pub meaning : meaning_in held manifest ≡ Ok content
+  pub meaning : (manifest_read held manifest).gives ≡ Ok content
   pub sources : List Source
-  pub read : sources_in held content ≡ Ok sources
+  pub read : (sources_read held content).gives ≡ Ok sources
   -- a bank of these sources was made, and exactly its files were set, and exactly its report was said
   pub writes : List NamedFile
   pub line : List ℕ

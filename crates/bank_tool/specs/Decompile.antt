@@ -16,9 +16,11 @@ use Rattle.command_plan.specs.declared.status.Status.{Status}
 use Rattle.command_plan.specs.declared.status.Status.TheVariants.{Done, Input, Memory}
 use Rattle.command_plan.specs.declared.input_fault.InputFault.TheVariants.{TooMuch as OfMuch, Image as OfImage, Vag as OfVag, Ima as OfIma, Track as OfTrack}
 use Rattle.command_plan.specs.Ending.{is_device}
-use Rattle.command_plan.specs.Plan.{names_in, all_stored}
-use Rattle.command_plan.specs.Reading.{Reading, nothing_read, then_read, writing_course, status_of, tested_reading}
-use Rattle.bank_tool.specs.Play.{whole_in, front_of}
+use Rattle.command_plan.specs.Plan.{names_in, all_stored, PartlySet}
+use Rattle.command_plan.specs.Read.{Read, as_reading, fetched_for, read_on, written_under}
+use Rattle.command_plan.specs.Reading.{Reading, status_of}
+use Rattle.bank_tool.specs.Source.{front_in}
+use Rattle.bank_tool.specs.Play.{whole_in}
 use Rattle.bank_tool.specs.EntryFiles.{entry_files, entry_name, wave_of, AreKept, ReadsAs}
 use Rattle.bank_tool.specs.EntryLines.{entry_lines}
 
@@ -48,22 +50,22 @@ entries_from kind file front = do
   bytes ← whole_in file front
   or_status file (decompiled (form_of kind) bytes)
 
+-- the file's front is fetched, and what it says decides
+abbrev pub entries_read : Files → Kind → List ℕ → Read (List Recovered)
+entries_read files kind file = fetched_for file (entries_from kind file (front_in files file 8388608))
+
 -- the entries of a file
 abbrev pub entries_in : Files → Kind → List ℕ → Result (List Recovered) Status
-entries_in files kind file = entries_from kind file (front_of files file)
+entries_in files kind file = (entries_read files kind file).gives
 
--- the file's front is fetched, and what it says decides
+-- the calls up to them
 abbrev pub entries_reading : Files → Kind → List ℕ → Reading
-entries_reading files kind file = tested_reading file (entries_in files kind file)
-
--- then a file is stored for each entry, and the lines are said
-abbrev pub storing : List ℕ → Result (List Recovered) Status → Reading
-storing output (Ok entries) = writing_course (names_in (entry_files output 0 entries))
-storing output (Err s) = nothing_read
+entries_reading files kind file = as_reading (entries_read files kind file)
 
 -- the file is read, and then its entries are stored and told
 abbrev pub decompile_course : Files → Kind → List ℕ → List ℕ → Reading
-decompile_course files kind file output = then_read (entries_reading files kind file) (storing output (entries_in files kind file))
+decompile_course files kind file output =
+    as_reading (read_on (entries_read files kind file).calls (entries_in files kind file) (λ entries. written_under (names_in (entry_files output 0 entries))))
 
 -- what is stored and said for a file: the WAVE files of its entries, which are read as the entries, and their lines
 pub record IsDecompiled (read : Result (List Recovered) Status) (output : List ℕ) (writes : List NamedFile) (line : List ℕ) : Type 0 where
@@ -99,3 +101,5 @@ pub record AnswersDecompile (held : Files) (kind : Kind) (file output : List ℕ
   pub done : r ≡ Done → HasDecompiled held kind file output a b
   -- where the host does not fail, what the file says decides, unless there was no memory
   pub outcome : is_device r ≡ false → Tells Memory r (status_of (entries_in held kind file))
+  -- wherever it ended, the files of a front of the entries are set, and at most the next one is not known
+  pub front : (entries : List Recovered) → entries_in held kind file ≡ Ok entries → PartlySet (entry_files output 0 entries) a.files b.files

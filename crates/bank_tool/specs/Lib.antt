@@ -3,9 +3,12 @@ pub mod PlayWords
 pub mod MakeWords
 pub mod DecompileWords
 pub mod Words
+pub mod Grammar
+pub mod Places
 pub mod Samples
 pub mod Block
 pub mod Play
+pub mod Played
 pub mod EntryLines
 pub mod EntryFiles
 pub mod Decompile
@@ -13,6 +16,7 @@ pub mod Make
 pub mod GivenBack
 pub mod Commands
 pub mod Source
+pub mod Sources
 pub mod Ready
 pub mod Compile
 pub mod Stored

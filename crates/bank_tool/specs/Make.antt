@@ -24,7 +24,8 @@ use Rattle.bank_compile.specs.Told.{report_text}
 use Rattle.command_plan.specs.declared.status.Status.{Status}
 use Rattle.command_plan.specs.declared.status.Status.TheVariants.{Done, Memory}
 use Rattle.command_plan.specs.Ending.{is_device}
-use Rattle.command_plan.specs.Reading.{Reading, writing_course}
+use Rattle.command_plan.specs.Read.{as_reading, written_under}
+use Rattle.command_plan.specs.Reading.{Reading}
 
 -- how a test sound is brought to blocks: its loop is repeated to whole blocks, zeros come before it, and a block of IMA ADPCM has 256 bytes
 abbrev pub made_rule : Kind → FitRule
@@ -72,7 +73,7 @@ pub record IsMade (number : ℕ) (writes : List NamedFile) (line : List ℕ) : T
 
 -- nothing is read, and one line is said
 abbrev pub make_course : Reading
-make_course = writing_course []
+make_course = as_reading (written_under [])
 
 -- what is told of the test sound of a number in a format
 pub record IsToldIn (number : ℕ) (kind : Kind) (name : List ℕ) (report : SampleReport) : Type 0 where

@@ -1,10 +1,8 @@
--- The command `play`: the first outputs of an entry of an image, a VAG file or a WAVE file of IMA ADPCM.
-use Rattle.std.specs.Prelude.{Bool, false, ◌≡◌, ℕ, zero, suc, ◌+◌, ◌*◌, ◌==◌, ◌||◌, nat_lt, if◌then◌else◌, ℤ, List, [], ◌++◌, length, take, get_or, codes, Option, Some, None, Result, Ok, Err}
+-- What a file says of one of its entries: the first outputs of a track of an image, of a VAG file or of a WAVE file of IMA ADPCM.
+use Rattle.std.specs.Prelude.{Bool, ℕ, zero, suc, ◌*◌, ◌||◌, nat_lt, if◌then◌else◌, ℤ, List, [], ◌++◌, length, get_or, codes, Option, Some, None, Result, Ok, Err}
 use Rattle.std.specs.Fmt.{signed_decimal}
 use Rattle.adpcm_nums.specs.First.{first_where}
-use Rattle.adpcm_nums.specs.Outcome.{Tells, ◌>>=◌}
-use Rattle.host_files.specs.Outside.{World, Files, content_of, grown, raised}
-use Rattle.host_files.specs.declared.named_file.NamedFile.{NamedFile}
+use Rattle.adpcm_nums.specs.Outcome.{◌>>=◌}
 use Rattle.machine_core.specs.declared.state.Kind.{Kind}
 use Rattle.machine_core.specs.declared.state.Kind.TheVariants.{Brr, Spu, Ima}
 use Rattle.player_model.specs.declared.fault.TrackFault.{TrackFault}
@@ -26,11 +24,9 @@ use Rattle.vag_writer.specs.Reading.{vag_of}
 use Rattle.snes_directory.specs.declared.image.Image.{Image}
 use Rattle.snes_directory.specs.Reading.{image_of}
 use Rattle.command_plan.specs.declared.status.Status.{Status}
-use Rattle.command_plan.specs.declared.status.Status.TheVariants.{Done, Input, Memory}
+use Rattle.command_plan.specs.declared.status.Status.TheVariants.{Input}
 use Rattle.command_plan.specs.declared.input_fault.InputFault.{InputFault}
 use Rattle.command_plan.specs.declared.input_fault.InputFault.TheVariants.{FileLong, NoEntry, TooMuch, Image as OfImage, Vag as OfVag, Ima as OfIma, Track as OfTrack}
-use Rattle.command_plan.specs.Ending.{is_device}
-use Rattle.command_plan.specs.Reading.{Reading, nothing_read, then_read, writing_course, status_of, tested_reading}
 
 -- a file that may have 8,388,608 bytes
 unfoldable pub whole_in : List ℕ → List ℕ → Result (List ℕ) Status
@@ -146,45 +142,3 @@ unfoldable pub said_of : Kind → List ℕ → ℕ → ℕ → List ℕ → Resu
 said_of kind file entry count front = do
   bytes ← whole_in file front
   said_by kind file entry count bytes
-
--- the front that is fetched: one byte more than a file may have
-unfoldable pub front_of : Files → List ℕ → List ℕ
-front_of files file = take (8388608 + 1) (content_of files file)
-
--- what a file says of an entry
-abbrev pub said_in : Files → Kind → List ℕ → ℕ → ℕ → Result (List ℕ) Status
-said_in files kind file entry count = said_of kind file entry count (front_of files file)
-
--- the file's front is fetched, and what it says decides
-abbrev pub play_reading : Files → Kind → List ℕ → ℕ → ℕ → Reading
-play_reading files kind file entry count = tested_reading file (said_in files kind file entry count)
-
--- no outputs are said in no call
-abbrev pub saying : ℕ → Reading
-saying count = if count == 0 then nothing_read else writing_course []
-
--- the file is read, and then the outputs are said
-abbrev pub play_course : Files → Kind → List ℕ → ℕ → ℕ → Reading
-play_course files kind file entry count = then_read (play_reading files kind file entry count) (saying count)
-
--- nothing is stored, and the outputs are said
-pub record IsPlayed (said : Result (List ℕ) Status) (writes : List NamedFile) (line : List ℕ) : Type 0 where
-  pub none : writes ≡ []
-  pub told : said ≡ Ok line
-
--- what `play` has done where it ends well; `held` are the files before
-pub record HasPlayed (held : Files) (kind : Kind) (file : List ℕ) (entry count : ℕ) (a b : World) : Type 0 where
-  pub lines : List ℕ
-  pub told : said_in held kind file entry count ≡ Ok lines
-  pub files : b.files ≡ a.files
-  pub said : b.said ≡ grown a.said lines
-  -- the file was fetched, and the outputs, if any, were said in one call
-  pub calls : b.calls ≡ raised (if count == 0 then 1 else 2) a.calls
-
--- what `play` answers, in its own words: r is the answer, from a to b
-pub record AnswersPlay (held : Files) (kind : Kind) (file : List ℕ) (entry count : ℕ) (a b : World) (r : Status) : Type 0 where
-  -- whatever happens, the files are as they were
-  pub files : b.files ≡ a.files
-  pub done : r ≡ Done → HasPlayed held kind file entry count a b
-  -- where the host does not fail, what the file says decides, unless there was no memory
-  pub outcome : is_device r ≡ false → Tells Memory r (status_of (said_in held kind file entry count))

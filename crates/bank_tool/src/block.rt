@@ -2,9 +2,10 @@ ghost use Rattle.std.specs.Prelude.{◌≡◌, ◌∷◌, [], length, IfOk, Some
 ghost use Rattle.adpcm_nums.specs.Sample.{AreSamples};
 ghost use Rattle.host_files.specs.Outside.{Files};
 ghost use Rattle.command_plan.specs.Promise.{Reaches, Promises};
-ghost use Rattle.command_plan.specs.Steps.{Keeps, ReadsTo};
+ghost use Rattle.command_plan.specs.Read.{Reads};
+ghost use Rattle.command_plan.specs.Steps.{Keeps};
 ghost use Rattle.bank_tool.specs.Samples.{samples_of};
-ghost use Rattle.bank_tool.specs.Block.{block_reading, block_course, targets_in, IsBlock, AnswersBlock};
+ghost use Rattle.bank_tool.specs.Block.{targets_read, block_course, targets_in, IsBlock, AnswersBlock};
 ghost use Rattle.command_plan.specs.Reading.{status_of};
 
 use adpcm_nums::{Bytes, NoMemory, Text};
@@ -53,7 +54,7 @@ fn come_block<H: Host>(alloc: Global, host: &mut H, input: &str, output: &str) -
 fn fetch_samples<H: Host>(alloc: Global, host: &mut H, input: &str) -> Result<[i32; 16], Status>
     ensures keeps { Keeps (H.world host.old) (H.world host.new) (status_of result) }
     ensures told { (files : Files) → (H.world host.old).files ≡ Some files →
-        ReadsTo (block_reading files input.now) (H.world host.old) (H.world host.new) result (λ v. v ≡ targets_in files input.now) }
+        Reads (λ v. v) (targets_read files input.now) (H.world host.old) (H.world host.new) result }
     ensures range { IfOk result (λ v. AreSamples v) }
 {
     let bytes = fetch_whole(alloc, host, input, 32, InputFault::BlockLength { len: 33 })?;

@@ -1,4 +1,4 @@
-ghost use Rattle.std.specs.Prelude.{◌≡◌, ◌≤◌, All, IfOk, Some, length};
+ghost use Rattle.std.specs.Prelude.{◌≡◌, ◌≤◌, ℕ, List, All, IfOk, Some, Ok, length};
 ghost use Rattle.host_files.specs.Outside.{Files};
 ghost use Rattle.manifest_reader.specs.Meaning.{content_of};
 ghost use Rattle.manifest_reader.specs.Ranges.{InRanges};
@@ -7,7 +7,8 @@ ghost use Rattle.command_plan.specs.Read.{as_reading};
 ghost use Rattle.command_plan.specs.Reading.{status_of};
 ghost use Rattle.command_plan.specs.Steps.{Keeps, ReadsTo};
 ghost use Rattle.bank_tool.specs.Check.{bank_read, check_bank, check_course};
-ghost use Rattle.bank_tool.specs.Checked.{AnswersCheck, IsReported, check_choice, check_choice_of};
+ghost use Rattle.bank_tool.specs.Checked.{AnswersCheck, IsReported, MayTell};
+ghost use Rattle.bank_tool.specs.Sources.{manifest_read};
 ghost use Rattle.bank_tool.specs.Ready.{IsReady};
 
 use crate::check_bank::check_samples;
@@ -31,7 +32,7 @@ use std::alloc::Global;
 pub fn run_check<H: Host>(alloc: Global, host: &mut H, manifest: &str) -> Status
     // How the world stands, whatever the host did.
     ensures told { (files : Files) → (H.world host.old).files ≡ Some files →
-        Promises (check_course files manifest.now) (check_choice files manifest.now) (H.world host.old) (H.world host.new) result }
+        Promises (check_course files manifest.now) (MayTell files manifest.now) (H.world host.old) (H.world host.new) result }
     // In the command's own words: the files stay as they were; at `Done` each stored list is legal, its told error is exact, and its told bound
     // holds; where the host does not fail, the manifest, the sources and what is stored decide how it ends.
     ensures answer { (files : Files) → (H.world host.old).files ≡ Some files →
@@ -47,7 +48,7 @@ pub fn run_check<H: Host>(alloc: Global, host: &mut H, manifest: &str) -> Status
 fn come_check<H: Host>(alloc: Global, host: &mut H, name: &str) -> Status
     ensures keeps { Keeps (H.world host.old) (H.world host.new) result }
     ensures told { (files : Files) → (H.world host.old).files ≡ Some files →
-        Reaches (check_course files name.now) (check_choice files name.now) (H.world host.old) (H.world host.new) result }
+        Reaches (check_course files name.now) (MayTell files name.now) (H.world host.old) (H.world host.new) result }
 {
     match fetch_manifest(alloc, host, name) {
         Ok(manifest) => come_stored(alloc, host, &manifest),
@@ -59,8 +60,8 @@ fn come_check<H: Host>(alloc: Global, host: &mut H, name: &str) -> Status
 fn come_stored<H: Host>(alloc: Global, host: &mut H, manifest: &Manifest) -> Status
     requires ranges { InRanges (content_of manifest.now) }
     ensures keeps { Keeps (H.world host.old) (H.world host.new) result }
-    ensures told { (files : Files) → (H.world host.old).files ≡ Some files →
-        Reaches (check_bank files (content_of manifest.now)) (check_choice_of files (content_of manifest.now)) (H.world host.old) (H.world host.new) result }
+    ensures told { (files : Files) (name : List ℕ) → (H.world host.old).files ≡ Some files → (manifest_read files name).gives ≡ Ok (content_of manifest.now) →
+        Reaches (as_reading (check_bank files (content_of manifest.now))) (MayTell files name) (H.world host.old) (H.world host.new) result }
 {
     let sources = match fetch_sources(alloc, host, manifest) {
         Ok(sources) => sources,

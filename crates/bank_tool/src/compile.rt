@@ -1,10 +1,12 @@
-ghost use Rattle.std.specs.Prelude.{◌≡◌, Some};
+ghost use Rattle.std.specs.Prelude.{◌≡◌, ℕ, List, Some, Ok};
 ghost use Rattle.host_files.specs.Outside.{Files};
 ghost use Rattle.manifest_reader.specs.Meaning.{content_of};
 ghost use Rattle.manifest_reader.specs.Ranges.{InRanges, StoresOnce};
 ghost use Rattle.command_plan.specs.Promise.{Reaches, Promises};
-ghost use Rattle.bank_tool.specs.Compile.{bank_course, bank_choice, compile_course, compile_choice};
+ghost use Rattle.command_plan.specs.Read.{as_reading};
+ghost use Rattle.bank_tool.specs.Compile.{bank_course, compile_course, MayStore};
 ghost use Rattle.bank_tool.specs.Compiled.{AnswersCompile};
+ghost use Rattle.bank_tool.specs.Sources.{manifest_read};
 ghost use Rattle.command_plan.specs.Steps.{Keeps};
 
 use crate::fetch_bank::fetch_sources;
@@ -23,7 +25,7 @@ use std::alloc::Global;
 pub fn run_compile<H: Host>(alloc: Global, host: &mut H, manifest: &str) -> Status
     // How the world stands, whatever the host did.
     ensures told { (files : Files) → (H.world host.old).files ≡ Some files →
-        Promises (compile_course files manifest.now) (compile_choice files manifest.now) (H.world host.old) (H.world host.new) result }
+        Promises (compile_course files manifest.now) (MayStore files manifest.now) (H.world host.old) (H.world host.new) result }
     // In the command's own words: at `Done` the bank plays, the told errors are exact, and the stored certificates show the told bounds; where the
     // host does not fail, the manifest, the sources and their room decide how it ends.
     ensures answer { (files : Files) → (H.world host.old).files ≡ Some files →
@@ -39,7 +41,7 @@ pub fn run_compile<H: Host>(alloc: Global, host: &mut H, manifest: &str) -> Stat
 fn come_compile<H: Host>(alloc: Global, host: &mut H, name: &str) -> Status
     ensures keeps { Keeps (H.world host.old) (H.world host.new) result }
     ensures told { (files : Files) → (H.world host.old).files ≡ Some files →
-        Reaches (compile_course files name.now) (compile_choice files name.now) (H.world host.old) (H.world host.new) result }
+        Reaches (compile_course files name.now) (MayStore files name.now) (H.world host.old) (H.world host.new) result }
 {
     match fetch_manifest(alloc, host, name) {
         Ok(manifest) => come_bank(alloc, host, &manifest),
@@ -52,8 +54,8 @@ fn come_bank<H: Host>(alloc: Global, host: &mut H, manifest: &Manifest) -> Statu
     requires ranges { InRanges (content_of manifest.now) }
     requires once { StoresOnce manifest.now.kind manifest.now.bank manifest.now.samples.items }
     ensures keeps { Keeps (H.world host.old) (H.world host.new) result }
-    ensures told { (files : Files) → (H.world host.old).files ≡ Some files →
-        Reaches (bank_course files (content_of manifest.now)) (bank_choice files (content_of manifest.now)) (H.world host.old) (H.world host.new) result }
+    ensures told { (files : Files) (name : List ℕ) → (H.world host.old).files ≡ Some files → (manifest_read files name).gives ≡ Ok (content_of manifest.now) →
+        Reaches (as_reading (bank_course files (content_of manifest.now))) (MayStore files name) (H.world host.old) (H.world host.new) result }
 {
     let sources = match fetch_sources(alloc, host, manifest) {
         Ok(sources) => sources,

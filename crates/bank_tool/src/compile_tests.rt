@@ -1,5 +1,5 @@
-use super::{Status, run, run_compile};
-use crate::test_files::{IMA, constant, image, pulses, push_number, spaced, vag, wave};
+use super::run;
+use crate::test_files::{IMA, constant, image, push_number, spaced, vag, wave};
 use crate::test_words::words;
 use host_files::{Host, MemoryHost, SteadyHost};
 use std::alloc::Global;
@@ -15,17 +15,9 @@ const VAGS: &str = "format = 'spu'\nbank = 'b'\n[[sample]]\nname = 's'\nfile = '
 const IMAS: &str =
     "format = 'ima'\nbank = 'b'\nblock = 8\n[[sample]]\nname = 's'\nfile = 's.wav'\n";
 
-/// The first again, found by the beam of width 1 alone.
-const NEAREST: &str =
-    "format = 'brr'\nbank = 'b'\nbeam = 1\nbudget = 0\n[[sample]]\nname = 's'\nfile = 's.wav'\n";
-
 /// A bank at the last address of the sound memory that it may have.
 const LAST: &str =
     "format = 'brr'\nbank = 'b'\nbase = 65280\n[[sample]]\nname = 's'\nfile = 's.wav'\n";
-
-/// A bank at address 1,024 of two samples, of which the second is not to repeat.
-const TWO: &str =
-    "format = 'brr'\nbank = 'b'\nbase = 1024\nlength = 'unroll'\n[[sample]]\nname = 's'\nfile = 's.wav'\n[[sample]]\nname = 't'\nfile = 't.wav'\nloop = 'none'\n";
 
 /// A host with a manifest `m.toml` and a file `s.wav`.
 fn host_with(alloc: Global, manifest: &[u8], source: &[u8]) -> Result<SteadyHost, Fail> {
@@ -67,42 +59,6 @@ fn makes_a_bank_that_repeats(rt: HostRuntime) -> Result<(), Fail> {
     assert_eq!(rt;
         cert,
         b"ADBC\x01\0\x01\0\x01\0\0\0\0\0\0\0\0\0\0\0\0\0\0\0".as_slice()
-    );
-    Ok(())
-}
-
-// The floor of shift 11 and filter 1 is 0, which no block reaches.
-#[test]
-fn tells_a_gap(rt: HostRuntime) -> Result<(), Fail> {
-    let alloc = rt.alloc();
-    let source = pulses(alloc, 2)?;
-    let mut host = host_with(alloc, NEAREST.as_bytes(), source.as_slice())?;
-    assert_eq!(rt; code_of(alloc, &mut host, "m.toml")?, 0);
-    assert_eq!(rt;
-        host.said(),
-        "sample s blocks 2 loop none error 32 bound 0 gap 32 levels 0 0 0 1\ndone 1 samples 3 files\n".as_bytes()
-    );
-    let bank = host.file("b").ok_or("no image")?;
-    let blocks = b"\0\0\0\0\0\0\0\0\0\xA1\x06\x06\x06\x06\x06\x06\x06\x06";
-    assert_eq!(rt; bank, image(alloc, 0x04, blocks)?.as_slice());
-    Ok(())
-}
-
-#[test]
-fn makes_a_bank_of_two_samples(rt: HostRuntime) -> Result<(), Fail> {
-    let alloc = rt.alloc();
-    let source = wave(alloc, &[0; 24], Some((0, 23)))?;
-    let mut host = host_with(alloc, TWO.as_bytes(), source.as_slice())?;
-    host.put("t.wav", wave(alloc, &[1; 16], Some((0, 15)))?.as_slice())
-        .map_err(|_| "memory")?;
-    assert!(rt; matches!(run_compile(alloc, &mut host, "m.toml"), Status::Done));
-    assert_eq!(rt;
-        host.said(),
-        "sample s blocks 3 loop 0 error 0 bound 0 gap 0 levels 1 0 0 0 optimal\nsample t blocks 1 loop none error 16 bound 16 gap 0 levels 1 0 0 0 optimal\ndone 2 samples 5 files\n".as_bytes()
-    );
-    assert_eq!(rt;
-        host.file("b").ok_or("no image")?,
-        b"SNBI\x01\0\x02\0\0\x04\0\0\x2C\0\0\0\0\x7D\0\0\0\x7D\0\0\x08\x04\x08\x04\x23\x04\x23\x04\0\0\0\0\0\0\0\0\0\0\0\0\0\0\0\0\0\0\x03\0\0\0\0\0\0\0\0\x01\0\0\0\0\0\0\0\0".as_slice()
     );
     Ok(())
 }

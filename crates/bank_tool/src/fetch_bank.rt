@@ -1,13 +1,14 @@
-ghost use Rattle.std.specs.Prelude.{◌≡◌, ◌^◌, ◌≤◌, ◌<◌, length, map, All, IfOk, Some, Ok};
+ghost use Rattle.std.specs.Prelude.{◌≡◌, ◌^◌, ◌≤◌, ◌<◌, length, map, All, IfOk, Some};
 ghost use Rattle.std.specs.List.{sum_by};
 ghost use Rattle.adpcm_nums.specs.Outcome.{Gives};
 ghost use Rattle.host_files.specs.Outside.{Files};
 ghost use Rattle.manifest_reader.specs.declared.manifest.SampleEntry.{SampleEntry};
 ghost use Rattle.manifest_reader.specs.Meaning.{content_of};
 ghost use Rattle.manifest_reader.specs.Ranges.{InRanges};
-ghost use Rattle.command_plan.specs.Steps.{Keeps, IsPlain, ReadsTo};
+ghost use Rattle.command_plan.specs.Read.{Reads};
+ghost use Rattle.command_plan.specs.Steps.{Keeps, IsPlain};
 ghost use Rattle.bank_tool.specs.declared.source.Source.{Source};
-ghost use Rattle.bank_tool.specs.Compile.{sources_in, sources_reading, with_room};
+ghost use Rattle.bank_tool.specs.Sources.{sources_read, with_room};
 ghost use Rattle.bank_tool.specs.Ready.{IsReady};
 ghost use Rattle.command_plan.specs.Reading.{status_of};
 
@@ -36,7 +37,7 @@ fn all_blocks(sources: &[Source]) -> u64
 }
 
 /// The samples, where those of an image fit into sound memory.
-#[tactic(auto, unfolding(crate::specs::Compile::with_room))]
+#[tactic(auto, unfolding(crate::specs::Sources::with_room))]
 fn with_room(
     alloc: Global,
     kind: Kind,
@@ -73,7 +74,7 @@ pub(crate) fn fetch_sources<H: Host>(
     ensures named { IfOk result (λ v. map (λ (s : Source). s.name) v.items ≡ map (λ (e : SampleEntry). e.name) manifest.now.samples.items) }
     ensures keeps { Keeps (H.world host.old) (H.world host.new) (status_of result) }
     ensures told { (files : Files) → (H.world host.old).files ≡ Some files →
-        ReadsTo (sources_reading files (content_of manifest.now)) (H.world host.old) (H.world host.new) result (λ v. sources_in files (content_of manifest.now) ≡ Ok v.items) }
+        Reads (λ v. v.items) (sources_read files (content_of manifest.now)) (H.world host.old) (H.world host.new) result }
 {
     let rule = FitRule {
         kind: manifest.kind,

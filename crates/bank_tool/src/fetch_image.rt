@@ -1,12 +1,12 @@
-ghost use Rattle.std.specs.Prelude.{◌≡◌, ◌≤◌, IfOk, Some, Ok, length};
+ghost use Rattle.std.specs.Prelude.{◌≡◌, ◌≤◌, IfOk, Some, length};
 ghost use Rattle.host_files.specs.Outside.{Files};
 ghost use Rattle.manifest_reader.specs.Meaning.{content_of};
 ghost use Rattle.adpcm_nums.specs.Outcome.{Gives};
 ghost use Rattle.bank_check.specs.Stored.{bank_image};
 ghost use Rattle.snes_directory.specs.Reading.{IsImage};
-ghost use Rattle.command_plan.specs.Read.{as_reading, fetched_for};
+ghost use Rattle.command_plan.specs.Read.{fetched_for, Reads};
 ghost use Rattle.command_plan.specs.Reading.{status_of};
-ghost use Rattle.command_plan.specs.Steps.{IsPlain, Keeps, ReadsTo};
+ghost use Rattle.command_plan.specs.Steps.{IsPlain, Keeps};
 ghost use Rattle.bank_tool.specs.Check.{image_by, no_image};
 ghost use Rattle.bank_tool.specs.Checked.{HasEntries};
 ghost use Rattle.bank_tool.specs.Source.{front_in, or_told};
@@ -41,8 +41,7 @@ fn fetch_bank<H: Host>(alloc: Global, host: &mut H, bank: &str, count: u32) -> R
     ensures count { IfOk result (λ image. length image.starts ≡ count) }
     ensures keeps { Keeps (H.world host.old) (H.world host.new) (status_of result) }
     ensures told { (files : Files) → (H.world host.old).files ≡ Some files →
-        ReadsTo (as_reading (fetched_for bank.now (or_told (λ f. Status.Input bank.now f) (bank_image count (front_in files bank.now 8388608))))) (H.world host.old) (H.world host.new) result
-        (λ image. or_told (λ f. Status.Input bank.now f) (bank_image count (front_in files bank.now 8388608)) ≡ Ok image) }
+        Reads (λ image. image) (fetched_for bank.now (or_told (λ f. Status.Input bank.now f) (bank_image count (front_in files bank.now 8388608)))) (H.world host.old) (H.world host.new) result }
 {
     let front = match fetch_front(alloc, host, bank, 8_388_608) {
         Ok(front) => front,
@@ -74,8 +73,7 @@ pub(crate) fn fetch_image<H: Host>(
     ensures entries { IfOk result (HasEntries manifest.now.kind (length manifest.now.samples.items)) }
     ensures keeps { Keeps (H.world host.old) (H.world host.new) (status_of result) }
     ensures told { (files : Files) → (H.world host.old).files ≡ Some files →
-        ReadsTo (as_reading (image_by manifest.now.kind files (content_of manifest.now))) (H.world host.old) (H.world host.new) result
-        (λ image. (image_by manifest.now.kind files (content_of manifest.now)).gives ≡ Ok image) }
+        Reads (λ image. image) (image_by manifest.now.kind files (content_of manifest.now)) (H.world host.old) (H.world host.new) result }
 {
     match manifest.kind {
         Kind::Brr => {

@@ -1,12 +1,13 @@
-ghost use Rattle.std.specs.Prelude.{◌≡◌, IfOk, Some, Ok};
+ghost use Rattle.std.specs.Prelude.{◌≡◌, IfOk, Some};
 ghost use Rattle.adpcm_nums.specs.Outcome.{Gives, Tells};
 ghost use Rattle.host_files.specs.Outside.{Files};
 ghost use Rattle.manifest_reader.specs.Meaning.{content_of};
 ghost use Rattle.manifest_reader.specs.Ranges.{InRanges, StoresOnce};
-ghost use Rattle.command_plan.specs.Reading.{status_of, tested_reading};
-ghost use Rattle.command_plan.specs.Steps.{Keeps, IsPlain, ReadsTo};
+ghost use Rattle.command_plan.specs.Read.{Reads};
+ghost use Rattle.command_plan.specs.Reading.{status_of};
+ghost use Rattle.command_plan.specs.Steps.{Keeps, IsPlain};
 ghost use Rattle.bank_tool.specs.Source.{manifest_in};
-ghost use Rattle.bank_tool.specs.Compile.{meaning_in};
+ghost use Rattle.bank_tool.specs.Sources.{manifest_read};
 
 use command_plan::{Status, fetch_front};
 use host_files::Host;
@@ -48,7 +49,7 @@ pub(crate) fn fetch_manifest<H: Host>(
     ensures once { IfOk result (λ m. StoresOnce m.kind m.bank m.samples.items) }
     ensures keeps { Keeps (H.world host.old) (H.world host.new) (status_of result) }
     ensures told { (files : Files) → (H.world host.old).files ≡ Some files →
-        ReadsTo (tested_reading name.now (meaning_in files name.now)) (H.world host.old) (H.world host.new) result (λ m. meaning_in files name.now ≡ Ok (content_of m)) }
+        Reads content_of (manifest_read files name.now) (H.world host.old) (H.world host.new) result }
 {
     let bytes = fetch_front(alloc, host, name, 65_536)?;
     manifest_in(alloc, name, bytes.as_slice())

@@ -1,10 +1,11 @@
-ghost use Rattle.std.specs.Prelude.{◌≡◌, length, map, All, IfOk, Some, Ok};
+ghost use Rattle.std.specs.Prelude.{◌≡◌, length, map, All, IfOk, Some};
 ghost use Rattle.host_files.specs.Outside.{Files};
 ghost use Rattle.manifest_reader.specs.Ranges.{IsEntry};
 ghost use Rattle.loop_fit.specs.Source.{IsBlockOf};
-ghost use Rattle.command_plan.specs.Reading.{status_of, read_each};
-ghost use Rattle.command_plan.specs.Steps.{Keeps, ReadsTo};
-ghost use Rattle.bank_tool.specs.Compile.{each_of, source_in, source_reading};
+ghost use Rattle.command_plan.specs.Read.{Reads};
+ghost use Rattle.command_plan.specs.Reading.{status_of};
+ghost use Rattle.command_plan.specs.Steps.{Keeps};
+ghost use Rattle.bank_tool.specs.Sources.{source_read, each_read};
 ghost use Rattle.manifest_reader.specs.declared.manifest.SampleEntry.{SampleEntry};
 ghost use Rattle.bank_tool.specs.declared.source.Source.{Source};
 ghost use Rattle.bank_tool.specs.Ready.{IsReadyBy};
@@ -30,7 +31,7 @@ fn fetch_source<H: Host>(
     ensures named { IfOk result (λ s. s.name ≡ entry.now.name) }
     ensures keeps { Keeps (H.world host.old) (H.world host.new) (status_of result) }
     ensures told { (files : Files) → (H.world host.old).files ≡ Some files →
-        ReadsTo (source_reading files rule entry.now) (H.world host.old) (H.world host.new) result (λ v. source_in files rule entry.now ≡ Ok v) }
+        Reads (λ v. v) (source_read files rule entry.now) (H.world host.old) (H.world host.new) result }
 {
     let bytes = fetch_front(alloc, host, entry.file.as_str(), 4_194_304)?;
     read_source(alloc, rule, entry, bytes.as_slice())
@@ -50,7 +51,7 @@ pub(crate) fn fetch_each<H: Host>(
     ensures named { IfOk result (λ v. map (λ (s : Source). s.name) v.items ≡ map (λ (e : SampleEntry). e.name) entries.now) }
     ensures keeps { Keeps (H.world host.old) (H.world host.new) (status_of result) }
     ensures told { (files : Files) → (H.world host.old).files ≡ Some files →
-        ReadsTo (read_each (source_reading files rule) entries.now) (H.world host.old) (H.world host.new) result (λ v. each_of (source_in files rule) entries.now ≡ Ok v.items) }
+        Reads (λ v. v.items) (each_read files rule entries.now) (H.world host.old) (H.world host.new) result }
 {
     let mut sources = Vec::new(alloc);
     for entry in entries {

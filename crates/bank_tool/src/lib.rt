@@ -6,7 +6,7 @@
 //! file apart into WAVE files, and `play FORM FILE ENTRY COUNT`, which says the first outputs of an entry of an image, of a VAG file
 //! or of a WAVE file of IMA ADPCM. `make NUMBER` compiles a test sound in the three formats and says how that went.
 //!
-//! A command joins by one case each in [`Command`], `command_in`, `course_of`, `choice_of` and
+//! A command joins by one case each in [`Command`], `command_in`, `grammar`, `command_at`, `course_of`, `choice_of` and
 //! `obey`; `command_plan` says how its own function is written.
 #![tactic(auto)]
 
@@ -26,6 +26,7 @@ mod fetch_proven;
 mod fetch_source;
 mod fetch_stored;
 mod form_bank;
+mod grammar;
 mod ima_outputs;
 mod image_outputs;
 mod laws;
@@ -34,6 +35,7 @@ mod make;
 mod make_words;
 mod numbers;
 mod outputs;
+mod places;
 mod play;
 mod play_words;
 mod read_source;

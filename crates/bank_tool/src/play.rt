@@ -1,8 +1,9 @@
-ghost use Rattle.std.specs.Prelude.{◌≡◌, Some, Ok};
+ghost use Rattle.std.specs.Prelude.{◌≡◌, Some};
 ghost use Rattle.host_files.specs.Outside.{Files};
 ghost use Rattle.command_plan.specs.Promise.{Reaches, Promises};
-ghost use Rattle.command_plan.specs.Steps.{Keeps, ReadsTo};
-ghost use Rattle.bank_tool.specs.Play.{said_in, play_reading, play_course, IsPlayed, AnswersPlay};
+ghost use Rattle.command_plan.specs.Read.{Reads};
+ghost use Rattle.command_plan.specs.Steps.{Keeps};
+ghost use Rattle.bank_tool.specs.Played.{said_read, play_course, IsPlayed, AnswersPlay};
 ghost use Rattle.command_plan.specs.Reading.{status_of};
 
 use crate::outputs::said_of;
@@ -27,7 +28,7 @@ pub fn run_play<H: Host>(
 ) -> Status
     // How the world stands, whatever the host did.
     ensures told { (files : Files) → (H.world host.old).files ≡ Some files →
-        Promises (play_course files kind file.now entry count) (IsPlayed (said_in files kind file.now entry count)) (H.world host.old) (H.world host.new) result }
+        Promises (play_course files kind file.now entry count) (IsPlayed (said_read files kind file.now entry count).gives) (H.world host.old) (H.world host.new) result }
     // What that says in the command's own words.
     ensures answer { (files : Files) → (H.world host.old).files ≡ Some files →
         AnswersPlay files kind file.now entry count (H.world host.old) (H.world host.new) result }
@@ -49,7 +50,7 @@ fn come_play<H: Host>(
 ) -> Status
     ensures keeps { Keeps (H.world host.old) (H.world host.new) result }
     ensures told { (files : Files) → (H.world host.old).files ≡ Some files →
-        Reaches (play_course files kind file.now entry count) (IsPlayed (said_in files kind file.now entry count)) (H.world host.old) (H.world host.new) result }
+        Reaches (play_course files kind file.now entry count) (IsPlayed (said_read files kind file.now entry count).gives) (H.world host.old) (H.world host.new) result }
 {
     let lines = match fetch_outputs(alloc, host, kind, file, entry, count) {
         Ok(lines) => lines,
@@ -72,7 +73,7 @@ fn fetch_outputs<H: Host>(
 ) -> Result<Text, Status>
     ensures keeps { Keeps (H.world host.old) (H.world host.new) (status_of result) }
     ensures told { (files : Files) → (H.world host.old).files ≡ Some files →
-        ReadsTo (play_reading files kind file.now entry count) (H.world host.old) (H.world host.new) result (λ lines. said_in files kind file.now entry count ≡ Ok lines) }
+        Reads (λ lines. lines) (said_read files kind file.now entry count) (H.world host.old) (H.world host.new) result }
 {
     let front = fetch_front(alloc, host, file, 8_388_608)?;
     said_of(alloc, kind, file, front.as_slice(), entry, count)

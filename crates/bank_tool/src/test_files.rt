@@ -78,19 +78,6 @@ pub(crate) fn constant(alloc: Global, value: i16, frames: usize) -> Result<Vec<u
     wave(alloc, samples.as_slice(), None)
 }
 
-/// A WAVE file of sixteen zeros and then eight times a sample and 6144, with no loop.
-pub(crate) fn pulses(alloc: Global, low: i16) -> Result<Vec<u8>, Fail> {
-    let mut samples = Vec::new(alloc);
-    for _ in 0..16 {
-        samples.push(0)?;
-    }
-    for _ in 0..8 {
-        samples.push(low)?;
-        samples.push(6144)?;
-    }
-    wave(alloc, samples.as_slice(), None)
-}
-
 /// A file that begins with some bytes and goes on with spaces.
 pub(crate) fn spaced(alloc: Global, front: &[u8], len: usize) -> Result<Vec<u8>, Fail> {
     let mut bytes = Vec::from_slice(alloc, front)?;

@@ -10,7 +10,7 @@ ghost use Rattle.bank_tool.specs.Block.{AnswersBlock};
 ghost use Rattle.bank_tool.specs.Compiled.{AnswersCompile};
 ghost use Rattle.bank_tool.specs.Checked.{AnswersCheck};
 ghost use Rattle.bank_tool.specs.Decompile.{AnswersDecompile};
-ghost use Rattle.bank_tool.specs.Play.{AnswersPlay};
+ghost use Rattle.bank_tool.specs.Played.{AnswersPlay};
 ghost use Rattle.bank_tool.specs.Make.{AnswersMake};
 ghost use Rattle.bank_tool.specs.Commands.{course_of, choice_of};
 

@@ -1,11 +1,14 @@
-ghost use Rattle.std.specs.Prelude.{◌≡◌, IfOk, map, string_bytes};
+ghost use Rattle.std.specs.Prelude.{◌≡◌, IfOk, IfSome, IsNone, false, true, map, string_bytes};
 ghost use Rattle.std.specs.List.{list_all};
+ghost use Rattle.clap.specs.Words.{subcommand_rows_of};
 ghost use Rattle.bank_tool.specs.Words.{is_word, command_in, command_of};
+ghost use Rattle.bank_tool.specs.Grammar.{AreSplit, fits};
 
-use crate::decompile_words::decompile_command;
-use crate::make_words::make_command;
-use crate::play_words::play_command;
+use crate::grammar::grammar;
+use crate::places::command_met;
 use adpcm_nums::{NoMemory, Text};
+use clap::ArgMatches;
+use clap::error::ErrorKind;
 use machine_core::Kind;
 use std::alloc::Global;
 
@@ -73,54 +76,32 @@ fn may_all_stand(words: &[String]) -> bool
     words.iter().all(|word| may_stand(word.as_str()))
 }
 
-/// The command that words are which may stand in one.
+/// The words as the crate `clap` splits them, if they fit the command line.
+fn split<'a>(alloc: Global, words: &'a [String]) -> Result<Option<ArgMatches<'a>>, NoMemory>
+    ensures some { IfOk result (λ o. IfSome o (λ found. AreSplit (map string_bytes words.now) (subcommand_rows_of found))) }
+    ensures none { IfOk result (λ o. IsNone o → fits (map string_bytes words.now) ≡ false) }
+{
+    let grammar = match grammar(alloc) {
+        Ok(grammar) => grammar,
+        Err(_) => return Err(NoMemory),
+    };
+    match grammar.try_get_matches_from(words) {
+        Ok(found) => Ok(Some(found)),
+        Err(error) => match error.kind() {
+            ErrorKind::OutOfMemory => Err(NoMemory),
+            _ => Ok(None),
+        },
+    }
+}
+
+/// The command that words are of which each may stand in one.
 fn known_command(alloc: Global, words: &[String]) -> Result<Option<Command>, NoMemory>
+    requires { list_all (λ word. is_word (string_bytes word)) words.now ≡ true }
     ensures { IfOk result (λ o. o ≡ command_in (map string_bytes words.now)) }
 {
-    match words {
-        [name, manifest] => {
-            if name.as_str() == "compile" {
-                let manifest = Text::copy_of(alloc, manifest.as_str())?;
-                Ok(Some(Command::Compile { manifest }))
-            } else if name.as_str() == "check" {
-                let manifest = Text::copy_of(alloc, manifest.as_str())?;
-                Ok(Some(Command::Check { manifest }))
-            } else if name.as_str() == "make" {
-                Ok(make_command(manifest.as_str()))
-            } else {
-                Ok(None)
-            }
-        }
-        [name, input, output] => {
-            if name.as_str() == "block" {
-                let input = Text::copy_of(alloc, input.as_str())?;
-                let output = Text::copy_of(alloc, output.as_str())?;
-                Ok(Some(Command::Block { input, output }))
-            } else {
-                Ok(None)
-            }
-        }
-        [name, form, file, output] => {
-            if name.as_str() == "decompile" {
-                decompile_command(alloc, form.as_str(), file.as_str(), output.as_str())
-            } else {
-                Ok(None)
-            }
-        }
-        [name, form, file, entry, count] => {
-            if name.as_str() == "play" {
-                play_command(
-                    alloc,
-                    form.as_str(),
-                    file.as_str(),
-                    entry.as_str(),
-                    count.as_str(),
-                )
-            } else {
-                Ok(None)
-            }
-        }
-        _ => Ok(None),
+    match split(alloc, words)? {
+        Some(found) => command_met(alloc, &found),
+        None => Ok(None),
     }
 }
 

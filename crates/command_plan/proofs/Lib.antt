@@ -2,9 +2,8 @@ pub mod Fronts
 pub mod Cases
 pub mod Readings
 pub mod Tests
-pub mod ReadEach
 pub mod Storing
 pub mod Promised
-pub mod Tested
 pub mod Kept
 pub mod ReadOn
+pub mod ReadLoop

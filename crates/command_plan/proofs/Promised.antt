@@ -1,5 +1,5 @@
 -- How a command that reads, chooses and writes comes to what it promises.
-use Rattle.std.proofs.Common.{[], ◌≡◌, ℕ, ◌≤◌, List, ◌++◌, refl, sym, ap, subst, ◌∙◌, arith, inl, inr, false, length}
+use Rattle.std.proofs.Common.{[], ◌≡◌, ℕ, Ok, ◌≤◌, List, ◌++◌, refl, sym, ap, subst, ◌∙◌, arith, inl, inr, false, length}
 use Rattle.std.proofs.lemmas.Bool.{true≢false}
 use Rattle.adpcm_nums.specs.Outcome.{Tells}
 use Rattle.host_files.specs.Outside.{World, raised}
@@ -9,59 +9,48 @@ use Rattle.command_plan.specs.declared.status.Status.TheVariants.{Done, Memory}
 use Rattle.command_plan.specs.declared.status.HostCall.{HostCall}
 use Rattle.command_plan.specs.Ending.{Declined, ending_of, has_line, is_early, is_device}
 use Rattle.command_plan.specs.Plan.{Plan, Completes, Follows, names_in}
-use Rattle.command_plan.specs.Reading.{Reading, then_read, decided, unwritten, writing_calls, writing_course}
+use Rattle.command_plan.specs.Reading.{Reading, decided, unwritten, writing_calls}
+use Rattle.command_plan.specs.Read.{Read, as_reading, nothing, ◌>>=◌, written_under}
 use Rattle.command_plan.specs.Steps.{Comes, HasRead, Halts, Told, writing}
 use Rattle.command_plan.specs.Promise.{Choice, IsPlanOf, Reaches, Promises, Finishes}
 use Rattle.command_plan.proofs.Fronts.{grown_none}
 use Rattle.command_plan.proofs.Cases.{either, follows_from, told_answer, outcome_of, short_at_once}
-use Rattle.command_plan.proofs.Readings.{then_read-done, comes_moved, moved, halts_first, halts_after}
+use Rattle.command_plan.proofs.Readings.{comes_moved, moved, halts_after, halts_short, waits_none}
+use Rattle.command_plan.proofs.ReadOn.{then-reading, first_halts}
 use Rattle.command_plan.proofs.Tests.{decides_not}
 
 -- it came to a status by reading alone
 pub ends_read : (c : Reading) (May : Choice) (a b : World) (s : Status) → Halts c a b s → Reaches c May a b s
 ends_read c May a b s h = (unwritten c, record { calls = refl; outcome = refl; choice = inr (h.early, refl, refl) }, h.comes)
 
--- it ended before the first store
-pub ends_early : (c d : Reading) (May : Choice) (a b : World) (s : Status) → Halts c a b s → Reaches (then_read c d) May a b s
-ends_early c d May a b s h = ends_read (then_read c d) May a b s (halts_first c d a b s h)
+-- there was no memory before any call
+pub short_before : (c : Reading) (May : Choice) (a : World) → Reaches c May a a Memory
+short_before c May a = ends_read c May a a Memory (halts_short c a a 0 (omega arith) (waits_none a))
 
--- all was read, and there was no memory for what is to be stored
-pub ends_short : (c d : Reading) (May : Choice) (a b : World) → HasRead c a b → Reaches (then_read c d) May a b Memory
-ends_short c d May a b h = ends_early c d May a b Memory (halts_after c a b h)
+-- the first part of it came to a status
+pub first_ends : {A B : Type 0} (c : Read A) (f : A → Read B) (May : Choice) (a b : World) (s : Status) → Halts (as_reading c) a b s → Reaches (as_reading (c >>= f)) May a b s
+first_ends c f May a b s h = ends_read (as_reading (c >>= f)) May a b s (first_halts c f a b s h)
 
--- all was read, and nothing is to be stored or said
-pub ends_silent : (c : Reading) (May : Choice) (a b : World) → HasRead c a b → May [] [] → Reaches c May a b Done
-ends_silent c May a b h may = (
-  unwritten c,
-  record { calls = refl; outcome = refl; choice = inl may },
-  record { outcome = h.outcome; files = h.quiet.files; said = h.quiet.said ∙ sym (grown_none a.said); calls = h.quiet.calls },
-)
+-- it was read, and there was no memory for more
+pub first_short : {A B : Type 0} (c : Read A) (f : A → Read B) (May : Choice) (a b : World) → HasRead (as_reading c) a b → Reaches (as_reading (c >>= f)) May a b Memory
+first_short c f May a b h = first_ends c f May a b Memory (halts_after (as_reading c) a b h)
 
--- all was read, a choice was made, and writing it came to s
-pub ends_written : (c : Reading) (May : Choice) (names : List (List ℕ)) (ws : List NamedFile) (line : List ℕ) (a m b : World) (s : Status) → HasRead c a m → May ws line → names_in ws ≡ names → Comes (writing ws line) m b s → Reaches (then_read c (writing_course names)) May a b s
-ends_written c May names ws line a m b s h may same r =
-    let done = then_read-done c (writing_course names) h.outcome in (
-      moved c.calls (writing ws line),
-      record {
-        calls = ap (λ ns. c.calls ++ writing_calls ns) same ∙ sym (ap (λ (x : Reading). x.calls) done);
-        outcome = sym (ap (λ (x : Reading). x.outcome) done);
-        choice = inl may;
-      },
-      comes_moved c.calls (writing ws line) a m b s h.quiet r,
-    )
-
--- a part of it was read, and the rest came to a status
-pub reaches_next : (c d : Reading) (May : Choice) (a m b : World) (s : Status) → HasRead c a m → Reaches d May m b s → Reaches (then_read c d) May a b s
-reaches_next c d May a m b s h r =
-    let done = then_read-done c d h.outcome in (
+-- it was read, and the rest came to a status
+pub then_reaches : {A B : Type 0} (c : Read A) (f : A → Read B) (v : A) (May : Choice) (a m b : World) (s : Status) → c.gives ≡ Ok v → HasRead (as_reading c) a m → Reaches (as_reading (f v)) May m b s → Reaches (as_reading (c >>= f)) May a b s
+then_reaches c f v May a m b s e h r =
+    subst (λ (x : Reading). Reaches x May a b s) (sym (then-reading c f v e)) (
       moved c.calls r.0,
-      record {
-        calls = ap (λ (xs : List HostCall). c.calls ++ xs) r.1.calls ∙ sym (ap (λ (x : Reading). x.calls) done);
-        outcome = r.1.outcome ∙ sym (ap (λ (x : Reading). x.outcome) done);
-        choice = r.1.choice;
-      },
+      record { calls = ap (λ (xs : List HostCall). c.calls ++ xs) r.1.calls; outcome = r.1.outcome; choice = r.1.choice },
       comes_moved c.calls r.0 a m b s h.quiet r.2,
     )
+
+-- a choice was made, and writing it came to a status
+pub written : (May : Choice) (names : List (List ℕ)) (ws : List NamedFile) (line : List ℕ) (a b : World) (s : Status) → May ws line → names_in ws ≡ names → Comes (writing ws line) a b s → Reaches (as_reading (written_under names)) May a b s
+written May names ws line a b s may same r = (writing ws line, record { calls = ap writing_calls same; outcome = refl; choice = inl may }, r)
+
+-- nothing is stored or said
+pub unsaid : (May : Choice) (a : World) → May [] [] → Reaches (as_reading nothing) May a a Done
+unsaid May a may = (unwritten (decided Done), record { calls = refl; outcome = refl; choice = inl may }, record { outcome = refl; files = refl; said = sym (grown_none a.said); calls = omega arith })
 
 -- the plan stays one where there was no memory for the line of its status
 kept : (c : Reading) (May : Choice) (s r : Status) (p : Plan) → Tells Memory r s → IsPlanOf c May s p → IsPlanOf c May r p

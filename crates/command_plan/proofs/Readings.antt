@@ -1,46 +1,15 @@
 -- Readings one after another, and before the writing.
-use Rattle.std.proofs.Common.{◌≡◌, ℕ, ◌+◌, ◌≤◌, List, [], ◌++◌, length, refl, sym, ap, subst, ◌∙◌, arith, inl, inr, true, false, cond, Option, append-nil, Result, Ok, Err}
-use Rattle.std.proofs.lemmas.Bool.{cases_Bool}
+use Rattle.std.proofs.Common.{◌≡◌, ℕ, ◌+◌, ◌≤◌, List, [], ◌++◌, length, refl, sym, ap, subst, ◌∙◌, arith, inl, true, Option, Result, Ok, Err}
 use Rattle.host_files.specs.Outside.{World, Files, grown}
 use Rattle.command_plan.specs.declared.status.Status.{Status}
-use Rattle.command_plan.specs.declared.status.Status.TheVariants.{Done, Words, Manifest, Input, Unfit, Full, Refused, Device, Memory}
+use Rattle.command_plan.specs.declared.status.Status.TheVariants.{Done, Memory}
 use Rattle.command_plan.specs.declared.status.HostCall.{HostCall}
 use Rattle.command_plan.specs.declared.status.HostCall.TheVariants.{Fetch, Store, Say}
-use Rattle.command_plan.specs.Ending.{Ending, Finished, Declined, Broken, Starved, ending_of, is_finished, is_early}
+use Rattle.command_plan.specs.Ending.{Ending, Finished, Declined, Broken, Starved, ending_of, is_early}
 use Rattle.command_plan.specs.Plan.{Plan, PartlySet, LeftAt, SetBut, all_stored}
-use Rattle.command_plan.specs.Reading.{Reading, goes_on, nothing_read, then_read, unwritten}
-use Rattle.command_plan.specs.Steps.{Stays, SaidAt, ComesTo, Comes, Waits, HasRead, Halts, ReadsTo}
+use Rattle.command_plan.specs.Reading.{Reading, unwritten}
+use Rattle.command_plan.specs.Steps.{SaidAt, ComesTo, Comes, Waits, HasRead, Halts, ReadsTo}
 use Rattle.command_plan.proofs.Fronts.{front_of, front_none, length-append, slice_get-front, slice_get-past}
-
--- a reading that is refused is all that is done
-pub then_read-declined : (c d : Reading) → goes_on c ≡ false → then_read c d ≡ c
-then_read-declined c d e = rw e (ap (λ (xs : List HostCall). record { calls = xs; outcome = c.outcome }) (append-nil c.calls))
-
--- one that goes on goes before the next
-pub then_read-goes : (c d : Reading) → goes_on c ≡ true → then_read c d ≡ record { calls = c.calls ++ d.calls; outcome = d.outcome }
-then_read-goes c d e = rw e refl
-
--- and so does one that came to `Done`
-pub then_read-done : (c d : Reading) → c.outcome ≡ Done → then_read c d ≡ record { calls = c.calls ++ d.calls; outcome = d.outcome }
-then_read-done c d e = then_read-goes c d (ap (λ (s : Status). is_finished (ending_of s)) e)
-
-finished : (s : Status) → is_finished (ending_of s) ≡ true → s ≡ Done
-finished Done h = refl
-finished Words h = cc
-finished (Manifest fault) h = cc
-finished (Input name fault) h = cc
-finished (Unfit name fault) h = cc
-finished (Full bank total) h = cc
-finished (Refused name fault) h = cc
-finished (Device at) h = cc
-finished Memory h = cc
-
--- where all of it comes to `Done`, the first part does
-pub first_done : (c d : Reading) → (then_read c d).outcome ≡ Done → c.outcome ≡ Done
-first_done c d e = elim (cases_Bool (goes_on c)) [
-  | inl h ↦ finished c.outcome h
-  | inr h ↦ sym (ap (λ (x : Reading). x.outcome) (then_read-declined c d h)) ∙ e
-]
 
 waits_on : (n m : ℕ) (a b d : World) → Waits n a b → Waits m b d → Waits (n + m) a d
 waits_on n m a b d w v = record {
@@ -53,17 +22,6 @@ waits_on n m a b d w v = record {
 -- no call was made
 pub waits_none : (a : World) → Waits 0 a a
 waits_none a = record { files = refl; said = refl; later = omega arith; calls = omega arith }
-
--- nothing read yet
-pub reads_nothing : (a b : World) → b ≡ a → HasRead nothing_read a b
-reads_nothing a b e = subst (λ (w : World). HasRead nothing_read a w) (sym e) (record { outcome = refl; quiet = waits_none a })
-
--- one reading after another
-pub reads_next : (c d : Reading) (a m b : World) → HasRead c a m → HasRead d m b → HasRead (then_read c d) a b
-reads_next c d a m b h r = subst (λ (x : Reading). HasRead x a b) (sym (then_read-done c d h.outcome)) (record {
-  outcome = r.outcome;
-  quiet = subst (λ (k : ℕ). Waits k a b) (sym (length-append c.calls d.calls)) (waits_on _ _ a m b h.quiet r.quiet);
-})
 
 -- a plan after calls that only read
 abbrev pub moved : List HostCall → Plan → Plan
@@ -116,41 +74,6 @@ moved_to Starved cs p a m b s w h = record {
 pub comes_moved : (cs : List HostCall) (p : Plan) (a m b : World) (s : Status) → Waits (length cs) a m → Comes p m b s → Comes (moved cs p) a b s
 comes_moved cs p a m b s w h = moved_to (ending_of s) cs p a m b s w h
 
--- a reading that halts after one that was done
-pub halts_next : (c d : Reading) (a m b : World) (s : Status) → HasRead c a m → Halts d m b s → Halts (then_read c d) a b s
-halts_next c d a m b s h r = record {
-  comes = subst (λ (x : Reading). Comes (unwritten x) a b s) (sym (then_read-done c d h.outcome)) (comes_moved c.calls (unwritten d) a m b s h.quiet r.comes);
-  early = r.early;
-}
-
--- an early end stays one where another reading would come after it
-first_to : (e : Ending) (c d : Reading) (a b : World) (s : Status) → ending_of s ≡ e → is_early e ≡ true → ComesTo e (unwritten c) a b s → ComesTo e (unwritten (then_read c d)) a b s
-first_to Finished c d a b s is early h = cc
-first_to Declined c d a b s is early h =
-    let not : goes_on c ≡ false = ap (λ x. is_finished (ending_of x)) h.outcome ∙ ap is_finished is in
-    subst (λ (x : Reading). Stays (unwritten x) a b s) (sym (then_read-declined c d not)) h
-first_to (Broken (Fetch name)) c d a b s is early h = record {
-  rose = h.rose;
-  place = h.place;
-  reached = slice_get-front c.calls _ h.place (Fetch name) h.reached;
-  files = h.files;
-  said = h.said;
-  calls = h.calls;
-}
-first_to (Broken (Store name)) c d a b s is early h = cc
-first_to (Broken Say) c d a b s is early h = cc
-first_to Starved c d a b s is early h = record {
-  files = h.files;
-  said = h.said;
-  count = h.count;
-  few = let l = length-append c.calls (cond (goes_on c) d.calls []) in let f = h.few in omega arith;
-  calls = h.calls;
-}
-
--- a reading that halts does so whatever would come after it
-pub halts_first : (c d : Reading) (a b : World) (s : Status) → Halts c a b s → Halts (then_read c d) a b s
-halts_first c d a b s h = record { comes = first_to (ending_of s) c d a b s refl h.early h.comes; early = h.early }
-
 -- no memory after some calls that only read
 pub halts_short : (c : Reading) (a b : World) (n : ℕ) → n ≤ length c.calls → Waits n a b → Halts c a b Memory
 halts_short c a b n few w = record {
@@ -169,7 +92,48 @@ halts_declined c a b s is e w = record {
   early = ap is_early is;
 }
 
+-- calls that only read, and then a reading
+abbrev pub behind : List HostCall → Reading → Reading
+behind cs d = record { calls = cs ++ d.calls; outcome = d.outcome }
+
+-- one reading after another
+pub reads_behind : (c d : Reading) (a m b : World) → HasRead c a m → HasRead d m b → HasRead (behind c.calls d) a b
+reads_behind c d a m b h r = record {
+  outcome = r.outcome;
+  quiet = subst (λ (k : ℕ). Waits k a b) (sym (length-append c.calls d.calls)) (waits_on _ _ a m b h.quiet r.quiet);
+}
+
+-- a reading that halts after one that was done
+pub halts_behind : (c d : Reading) (a m b : World) (s : Status) → HasRead c a m → Halts d m b s → Halts (behind c.calls d) a b s
+halts_behind c d a m b s h r = record { comes = comes_moved c.calls (unwritten d) a m b s h.quiet r.comes; early = r.early }
+
+-- an early end stays one where more would be read after it
+front_to : (e : Ending) (cs : List HostCall) (d : Reading) (a b : World) (s : Status) → ending_of s ≡ e → is_early e ≡ true → ComesTo e (unwritten (record { calls = cs; outcome = Done })) a b s → ComesTo e (unwritten (behind cs d)) a b s
+front_to Finished cs d a b s is early h = cc
+front_to Declined cs d a b s is early h = let no : Finished ≡ Declined = ap ending_of h.outcome ∙ is in cc
+front_to (Broken (Fetch name)) cs d a b s is early h = record {
+  rose = h.rose;
+  place = h.place;
+  reached = slice_get-front cs _ h.place (Fetch name) h.reached;
+  files = h.files;
+  said = h.said;
+  calls = h.calls;
+}
+front_to (Broken (Store name)) cs d a b s is early h = cc
+front_to (Broken Say) cs d a b s is early h = cc
+front_to Starved cs d a b s is early h = record {
+  files = h.files;
+  said = h.said;
+  count = h.count;
+  few = let l = length-append cs d.calls in let f = h.few in omega arith;
+  calls = h.calls;
+}
+
+-- a reading that refuses nothing and halts does so whatever would come after it
+pub halts_before : (cs : List HostCall) (d : Reading) (a b : World) (s : Status) → Halts (record { calls = cs; outcome = Done }) a b s → Halts (behind cs d) a b s
+halts_before cs d a b s h = record { comes = front_to (ending_of s) cs d a b s refl h.early h.comes; early = h.early }
+
 -- a reading after another, as a function's result says it
-pub reads_on : {T : Type 0} (c d : Reading) (a m b : World) (r : Result T Status) (P : T → Type 0) → HasRead c a m → ReadsTo d m b r P → ReadsTo (then_read c d) a b r P
-reads_on c d a m b (Ok v) P h r = (reads_next c d a m b h r.0, r.1)
-reads_on c d a m b (Err s) P h r = halts_next c d a m b s h r
+pub reads_on : {T : Type 0} (c d : Reading) (a m b : World) (r : Result T Status) (P : T → Type 0) → HasRead c a m → ReadsTo d m b r P → ReadsTo (behind c.calls d) a b r P
+reads_on c d a m b (Ok v) P h r = (reads_behind c d a m b h r.0, r.1)
+reads_on c d a m b (Err s) P h r = halts_behind c d a m b s h r

@@ -1,5 +1,5 @@
 -- One file fetched, and tests of what was read.
-use Rattle.std.proofs.Common.{◌≡◌, ℕ, ◌+◌, ◌<◌, ◌≤◌, List, length, take, refl, arith}
+use Rattle.std.proofs.Common.{◌≡◌, ℕ, ◌+◌, ◌<◌, ◌≤◌, Bool, true, false, cond, nat_lt, List, length, take, refl, sym, ap, ◌∙◌, arith, Ok, Err}
 use Rattle.std.proofs.lemmas.Bool.{cond-true, cond-false, lt-ltb, le-ltb}
 use Rattle.adpcm_nums.specs.Outcome.{Tells}
 use Rattle.host_files.specs.Outside.{World, Files, content_of, raised, Rose}
@@ -8,9 +8,10 @@ use Rattle.command_plan.specs.declared.status.Status.TheVariants.{Done, Input, D
 use Rattle.command_plan.specs.declared.input_fault.InputFault.{InputFault}
 use Rattle.command_plan.specs.declared.status.HostCall.TheVariants.{Fetch}
 use Rattle.command_plan.specs.Ending.{Declined, ending_of}
-use Rattle.command_plan.specs.Reading.{Reading, decided, fetched, whole_reading}
+use Rattle.command_plan.specs.Read.{as_reading, whole_read}
+use Rattle.command_plan.specs.Reading.{Reading, decided, fetched, status_of}
 use Rattle.command_plan.specs.Steps.{Waits, HasRead, Halts}
-use Rattle.command_plan.proofs.Fronts.{longer, as_long}
+use Rattle.command_plan.proofs.Fronts.{longer, as_long, whole}
 use Rattle.command_plan.proofs.Cases.{either}
 use Rattle.command_plan.proofs.Readings.{waits_none, halts_short, halts_declined}
 
@@ -31,15 +32,24 @@ fetch_fails name s a b w rose one =
     (halts_short _ a b 1 (omega arith) w)
 
 -- the file is too long
-pub too_long : (files : Files) (name ys : List ℕ) (most : ℕ) (fault : InputFault) (s : Status) (a b : World) → Waits 1 a b → ys ≡ take (most + 1) (content_of files name) → most < length ys → Tells Memory s (Input name fault) → Halts (whole_reading files name most fault) a b s
+pub too_long : (files : Files) (name ys : List ℕ) (most : ℕ) (fault : InputFault) (s : Status) (a b : World) → Waits 1 a b → ys ≡ take (most + 1) (content_of files name) → most < length ys → Tells Memory s (Input name fault) → Halts (as_reading (whole_read files name most fault)) a b s
 too_long files name ys most fault s a b w e h one =
-    halts_refused (whole_reading files name most fault) a b s (Input name fault) refl
-    (cond-true _ _ _ (lt-ltb most _ (longer most _ ys e h))) w one
+    halts_refused (as_reading (whole_read files name most fault)) a b s (Input name fault) refl
+    (ap status_of (cond-true _ _ _ (lt-ltb most _ (longer most _ ys e h)))) w one
 
 -- it is not, and all of it was read
-pub is_read : (files : Files) (name ys : List ℕ) (most : ℕ) (fault : InputFault) (a b : World) → Waits 1 a b → ys ≡ take (most + 1) (content_of files name) → length ys ≤ most → HasRead (whole_reading files name most fault) a b
+pub is_read : (files : Files) (name ys : List ℕ) (most : ℕ) (fault : InputFault) (a b : World) → Waits 1 a b → ys ≡ take (most + 1) (content_of files name) → length ys ≤ most → HasRead (as_reading (whole_read files name most fault)) a b × ((whole_read files name most fault).gives ≡ Ok ys)
 is_read files name ys most fault a b w e h =
-    record { outcome = cond-false _ _ _ (le-ltb most _ (as_long most (content_of files name) ys e h)); quiet = w }
+    let all : (whole_read files name most fault).gives ≡ Ok (content_of files name) = cond-false _ _ _ (le-ltb most _ (as_long most (content_of files name) ys e h)) in
+    (record { outcome = ap status_of all; quiet = w }, all ∙ ap Ok (sym (whole most (content_of files name) ys e h)))
+
+by_test : (long : Bool) (s : Status) (xs ys : List ℕ) → cond long (Err s) (Ok xs) ≡ Ok ys → ys ≡ xs
+by_test true s xs ys e = cc
+by_test false s xs ys e = cc
+
+-- what was read of it is the file
+pub is_whole : (files : Files) (name ys : List ℕ) (most : ℕ) (fault : InputFault) → (whole_read files name most fault).gives ≡ Ok ys → ys ≡ content_of files name
+is_whole files name ys most fault e = by_test (nat_lt most (length (content_of files name))) (Input name fault) (content_of files name) ys e
 
 -- a test that passes
 pub decides : (o : Status) (a : World) → o ≡ Done → HasRead (decided o) a a

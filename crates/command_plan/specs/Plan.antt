@@ -69,10 +69,16 @@ pub record Breaks (p : Plan) (a b : World) (s : Status) (at : HostCall) : Type 0
   pub front : GrowsByFront a.said b.said (if is_say at then p.line else fault_line s)
   pub calls : b.calls ≡ raised (if is_say at then place + 1 else place + 2) a.calls
 
--- there was no memory: some of it was done, and a front of its line or of a status' line was said
+-- a status that has a line was come to: the plan was refused, or one of its calls failed
+pub data CameTo (p : Plan) (a b : World) (s : Status) : Type 0 where
+  refused : p.outcome ≡ s → ending_of s ≡ Declined → b.files ≡ a.files → CameTo p a b s
+  failed : (at : HostCall) (place : ℕ) → ending_of s ≡ Broken at → slice_get p.calls place ≡ Some at → LeftAt p place at a.files b.files
+      → Rose a.faults b.faults → CameTo p a b s
+
+-- there was no memory: some of it was done, and a front of its line was said, or of the line of the status that was come to
 pub record RunsShort (p : Plan) (a b : World) : Type 0 where
   pub files : PartlySet p.writes a.files b.files
-  pub said : GrowsByFront a.said b.said p.line ⊎ ((s : Status) × GrowsByFront a.said b.said (fault_line s))
+  pub said : GrowsByFront a.said b.said p.line ⊎ ((s : Status) × CameTo p a b s × GrowsByFront a.said b.said (fault_line s))
   -- how many calls were made
   pub count : ℕ
   pub few : count ≤ length p.calls + 1

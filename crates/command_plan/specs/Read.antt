@@ -1,9 +1,13 @@
 -- Readings that give a value: the calls of the host up to the test that decides, and what that gives or refuses.
-use Rattle.std.specs.Prelude.{ℕ, suc, List, [], ◌∷◌, ◌++◌, Result, Ok, Err}
+use Rattle.std.specs.Prelude.{◌≡◌, ⊤, ℕ, suc, nat_lt, if◌then◌else◌, List, [], ◌∷◌, ◌++◌, length, Result, Ok, Err}
+use Rattle.host_files.specs.Outside.{World, Files, content_of}
 use Rattle.command_plan.specs.declared.status.Status.{Status}
+use Rattle.command_plan.specs.declared.status.Status.TheVariants.{Input}
+use Rattle.command_plan.specs.declared.input_fault.InputFault.{InputFault}
 use Rattle.command_plan.specs.declared.status.HostCall.{HostCall}
 use Rattle.command_plan.specs.declared.status.HostCall.TheVariants.{Fetch}
-use Rattle.command_plan.specs.Reading.{Reading, status_of}
+use Rattle.command_plan.specs.Reading.{Reading, status_of, writing_calls}
+use Rattle.command_plan.specs.Steps.{ReadsTo}
 
 pub record Read (T : Type 0) : Type 0 where
   pub calls : List HostCall
@@ -17,9 +21,22 @@ as_reading r = record { calls = r.calls; outcome = status_of r.gives }
 abbrev pub given : {T : Type 0} → Result T Status → Read T
 given r = record { calls = []; gives = r }
 
+-- nothing to do
+abbrev pub nothing : Read ⊤
+nothing = given (Ok tt)
+
 -- a file is fetched, and what its front says decides
 abbrev pub fetched_for : {T : Type 0} → List ℕ → Result T Status → Read T
 fetched_for name r = record { calls = Fetch name ∷ []; gives = r }
+
+-- a file is fetched, which may have at most so many bytes
+abbrev pub whole_read : Files → List ℕ → ℕ → InputFault → Read (List ℕ)
+whole_read files name most too_long =
+    fetched_for name (if nat_lt most (length (content_of files name)) then Err (Input name too_long) else Ok (content_of files name))
+
+-- files are stored under these names in order, and then a line is said
+abbrev pub written_under : List (List ℕ) → Read ⊤
+written_under names = record { calls = writing_calls names; gives = Ok tt }
 
 -- what comes after these calls, where they gave a value
 abbrev pub read_on : {A B : Type 0} → List HostCall → Result A Status → (A → Read B) → Read B
@@ -38,3 +55,7 @@ read_all f j (x ∷ xs) = do
   y ← f j x
   ys ← read_all f (suc j) xs
   given (Ok (y ∷ ys))
+
+-- what a function that reads promises: with its value all was read, and as `view` shows it, it is what the reading gives
+abbrev pub Reads : {T X : Type 0} → (X → T) → Read T → World → World → Result X Status → Type 0
+Reads view c a b r = ReadsTo (as_reading c) a b r (λ v. c.gives ≡ Ok (view v))

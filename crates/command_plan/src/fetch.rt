@@ -1,6 +1,7 @@
 ghost use Rattle.std.specs.Prelude.{◌≡◌, ◌+◌, ◌≤◌, ◌<◌, ◌^◌, length, take, IfOk, Some};
 ghost use Rattle.host_files.specs.Outside.{Files, content_of};
-ghost use Rattle.command_plan.specs.Reading.{fetched, status_of, whole_reading};
+ghost use Rattle.command_plan.specs.Read.{whole_read, Reads};
+ghost use Rattle.command_plan.specs.Reading.{fetched, status_of};
 ghost use Rattle.command_plan.specs.Steps.{Keeps, ReadsTo};
 
 use crate::input_fault::InputFault;
@@ -40,7 +41,7 @@ pub fn fetch_whole<H: Host>(
     requires { most < 2 ^ 32 }
     ensures keeps { Keeps (H.world host.old) (H.world host.new) (status_of result) }
     ensures told { (files : Files) → (H.world host.old).files ≡ Some files →
-        ReadsTo (whole_reading files name.now most too_long) (H.world host.old) (H.world host.new) result (λ v. v.items ≡ content_of files name.now) }
+        Reads (λ v. v.items) (whole_read files name.now most too_long) (H.world host.old) (H.world host.new) result }
 {
     let bytes = fetch_front(alloc, host, name, most)?;
     if bytes.len() as u64 > most {

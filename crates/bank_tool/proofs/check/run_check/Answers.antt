@@ -1,12 +1,12 @@
 use Rattle.command_plan.proofs.Promised.{promised}
 use Rattle.bank_tool.specs.Check.{check_course}
-use Rattle.bank_tool.specs.Checked.{check_choice}
+use Rattle.bank_tool.specs.Checked.{MayTell}
 use Rattle.bank_tool.proofs.CheckedSteps.{answers_check}
 use Rattle.bank_tool.proofs.check.run_check.Goals as goal
 
 pub returns-clause-told : goal.returns-clause-told
 returns-clause-told g c = λ files told.
-    promised (check_course files c.args.manifest.now) (check_choice files c.args.manifest.now)
+    promised (check_course files c.args.manifest.now) (MayTell files c.args.manifest.now)
     (g.H.Host.world c.args.host.now) (g.H.Host.world c.come_check-status.new.host) (g.H.Host.world c.finish.new.host) _ _
     c.come_check-status.ensures.keeps.later (c.come_check-status.ensures.told files told) c.finish.ensures
 

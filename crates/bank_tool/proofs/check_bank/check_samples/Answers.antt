@@ -7,7 +7,8 @@ use Rattle.command_plan.specs.Read.{read_all}
 use Rattle.bank_tool.specs.Check.{sample_read}
 use Rattle.bank_tool.specs.Checked.{IsChecked}
 use Rattle.bank_tool.proofs.SourceSteps.{count_more}
-use Rattle.bank_tool.proofs.CheckLoop.{goes_step, goes_halts, goes_short, goes_ended, all_more}
+use Rattle.command_plan.proofs.ReadLoop.{goes_step, goes_halts, goes_short, goes_ended}
+use Rattle.bank_tool.proofs.CheckLoop.{all_more}
 use Rattle.bank_tool.proofs.check_bank.check_samples.Goals as goal
 
 pub returns-in-Err-push-clause-told : goal.returns-in-Err-push-clause-told

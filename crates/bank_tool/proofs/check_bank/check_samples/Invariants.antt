@@ -3,7 +3,7 @@ use Rattle.host_files.specs.Outside.{Files}
 use Rattle.manifest_reader.specs.Meaning.{content_of}
 use Rattle.report_text.specs.declared.report.SampleReport.{SampleReport}
 use Rattle.command_plan.specs.Read.{read_all}
-use Rattle.command_plan.proofs.ReadOn.{GoesOn}
+use Rattle.command_plan.proofs.ReadLoop.{GoesOn}
 use Rattle.bank_tool.specs.Check.{sample_read}
 use Rattle.bank_tool.specs.Checked.{AllChecked}
 use Rattle.bank_tool.proofs.check_bank.check_samples.Given as goal

@@ -1,11 +1,11 @@
 use Rattle.command_plan.proofs.Promised.{promised}
-use Rattle.bank_tool.specs.Compile.{compile_course, compile_choice}
+use Rattle.bank_tool.specs.Compile.{compile_course, MayStore}
 use Rattle.bank_tool.proofs.CompiledSteps.{answers_compile}
 use Rattle.bank_tool.proofs.compile.run_compile.Goals as goal
 
 pub returns-clause-told : goal.returns-clause-told
 returns-clause-told g c = λ files told.
-    promised (compile_course files c.args.manifest.now) (compile_choice files c.args.manifest.now)
+    promised (compile_course files c.args.manifest.now) (MayStore files c.args.manifest.now)
     (g.H.Host.world c.args.host.now) (g.H.Host.world c.come_compile-status.new.host) (g.H.Host.world c.finish.new.host) _ _
     c.come_compile-status.ensures.keeps.later (c.come_compile-status.ensures.told files told) c.finish.ensures
 

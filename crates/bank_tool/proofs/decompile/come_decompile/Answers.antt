@@ -1,14 +1,17 @@
 use Rattle.std.proofs.Common.{subst, List, Ok}
 use Rattle.decompile_core.specs.declared.recovered.Recovered.{Recovered}
-use Rattle.command_plan.proofs.Promised.{ends_early, ends_short}
-use Rattle.bank_tool.specs.Decompile.{entries_in, entries_reading, storing, IsDecompiled}
+use Rattle.command_plan.specs.Plan.{names_in}
+use Rattle.command_plan.specs.Read.{written_under}
+use Rattle.command_plan.proofs.Promised.{first_ends, first_short}
+use Rattle.bank_tool.specs.Decompile.{entries_read, IsDecompiled}
+use Rattle.bank_tool.specs.EntryFiles.{entry_files}
 use Rattle.bank_tool.proofs.DecompileSteps.{stores_entries}
 use Rattle.bank_tool.proofs.decompile.come_decompile.Goals as goal
 
 pub returns-in-Err-clause-told : goal.returns-in-Err-clause-told
 returns-in-Err-clause-told g c = λ files told.
-    let read = entries_in files c.args.kind c.args.file.now in
-    ends_early (entries_reading files c.args.kind c.args.file.now) (storing c.args.output.now read) (IsDecompiled read c.args.output.now)
+    let read = entries_read files c.args.kind c.args.file.now in
+    first_ends read (λ es. written_under (names_in (entry_files c.args.output.now 0 es))) (IsDecompiled read.gives c.args.output.now)
     (g.H.Host.world c.args.host.now) (g.H.Host.world c.fetch_entries.new.host) c.in-Err.status (c.in-Err.ensures.told files told)
 
 pub returns-in-Ok-form_entries-clause-told : goal.returns-in-Ok-form_entries-clause-told
@@ -22,6 +25,6 @@ returns-in-Ok-form_entries-clause-told g c = λ files told.
 
 pub returns-clause-told : goal.returns-clause-told
 returns-clause-told g c = λ files told.
-    let read = entries_in files c.args.kind c.args.file.now in
-    ends_short (entries_reading files c.args.kind c.args.file.now) (storing c.args.output.now read) (IsDecompiled read c.args.output.now)
+    let read = entries_read files c.args.kind c.args.file.now in
+    first_short read (λ es. written_under (names_in (entry_files c.args.output.now 0 es))) (IsDecompiled read.gives c.args.output.now)
     (g.H.Host.world c.args.host.now) (g.H.Host.world c.fetch_entries.new.host) (c.in-Ok.ensures.told files told).0

@@ -36,4 +36,4 @@ returns-clause-told g c = λ files told.
     let ruled : with c.samples_in_block.result ≡ rule_of m = ap with c.samples_in_block.ensures.value in
     let got = c.in_ok-sources.ensures.told files told in
     sources_tested (λ v. v.items) files m (with c.samples_in_block.result) c.as_slice.result.now c.as_str.result.now c.in_ok-sources.sources c.with_room.result (g.H.Host.world c.args.host.now) (g.H.Host.world c.fetch_each.new.host)
-    ruled c.as_slice.ensures.value c.as_str.ensures got.0 got.1 c.with_room.ensures.same c.with_room.ensures.value
+    ruled c.as_slice.ensures.value c.as_str.ensures got.0 got.1 c.with_room.ensures.value

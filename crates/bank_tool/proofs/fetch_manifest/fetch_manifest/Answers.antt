@@ -3,8 +3,7 @@ use Rattle.adpcm_nums.specs.Outcome.{Gives}
 use Rattle.manifest_reader.specs.Meaning.{content_of}
 use Rattle.command_plan.specs.declared.status.Status.TheVariants.{Memory}
 use Rattle.bank_tool.specs.Source.{front_in, manifest_in}
-use Rattle.bank_tool.specs.Compile.{meaning_in}
-use Rattle.command_plan.proofs.Tested.{tested}
+use Rattle.command_plan.proofs.ReadOn.{fetched_reads}
 use Rattle.bank_tool.proofs.SourceSteps.{manifest-declines, is_front}
 use Rattle.bank_tool.proofs.fetch_manifest.fetch_manifest.Goals as goal
 
@@ -12,6 +11,6 @@ pub returns-clause-told : goal.returns-clause-told
 returns-clause-told g c = λ files told.
     let got = c.in_ok-bytes.ensures.told files told in
     let front : c.as_slice.result.now ≡ front_in files c.args.name.now 65536 = c.as_slice.ensures.value ∙ is_front files c.args.name.now c.in_ok-bytes.bytes.items 65536 got.1 in
-    tested c.args.name.now content_of c.manifest_in.result (meaning_in files c.args.name.now) (g.H.Host.world c.args.host.now) (g.H.Host.world c.fetch_front.new.host)
+    fetched_reads c.args.name.now content_of c.manifest_in.result (manifest_in c.args.name.now (front_in files c.args.name.now 65536)) (g.H.Host.world c.args.host.now) (g.H.Host.world c.fetch_front.new.host)
     got.0 (manifest-declines c.args.name.now _)
     (subst (λ (bs : List ℕ). Gives Memory content_of c.manifest_in.result (manifest_in c.args.name.now bs)) front c.manifest_in.ensures.value)

@@ -1,16 +1,12 @@
-use Rattle.std.proofs.Common.{◌≡◌, refl, sym, subst, ◌∙◌, ap, arith, List, take, length, map, All, Ok}
+use Rattle.std.proofs.Common.{refl, sym, subst, ◌∙◌, ap, arith, List, length, map, All}
 use Rattle.std.proofs.lemmas.Result.{err_from_is_err_and}
-use Rattle.std.specs.List.{AllZip}
 use Rattle.std.proofs.lemmas.Option.{slice_get_read}
-use Rattle.std.proofs.lemmas.List.{take_all}
 use Rattle.std.proofs.lemmas.List.Elements.{All-push}
 use Rattle.manifest_reader.specs.declared.manifest.SampleEntry.{SampleEntry}
-use Rattle.command_plan.specs.Reading.{read_each}
-use Rattle.command_plan.specs.Steps.{HasRead}
-use Rattle.command_plan.proofs.ReadEach.{reads_none, reads_more, each_halts, each_short}
+use Rattle.command_plan.proofs.ReadLoop.{goes_first, goes_step, goes_halts, goes_short, goes_ended}
 use Rattle.bank_tool.specs.declared.source.Source.{Source}
-use Rattle.bank_tool.specs.Compile.{source_in, source_reading}
-use Rattle.bank_tool.proofs.SourceSteps.{each_zip, zip_none, zip_more, count_more, alike_more}
+use Rattle.bank_tool.specs.Sources.{source_read, each_read}
+use Rattle.bank_tool.proofs.SourceSteps.{count_more, alike_more}
 use Rattle.bank_tool.specs.Ready.{IsReadyBy}
 use Rattle.bank_tool.proofs.fetch_source.fetch_each.Goals as goal
 
@@ -20,7 +16,7 @@ loop-entry-init g c = record {
   named = ap (map (λ (s : Source). s.name)) c.new-sources.ensures.items;
   ready = subst (λ (ss : List Source). All (IsReadyBy c.args.rule) ss) (sym c.new-sources.ensures.items) (λ k d h. absurd (omega (arith, h)));
   later = omega arith;
-  told = λ files told. (reads_none (source_reading files c.args.rule) (g.H.Host.world c.args.host.now), zip_none (λ e s. source_in files c.args.rule e ≡ Ok s) c.new-sources.result.items c.new-sources.ensures.items);
+  told = λ files told. (told, goes_first (each_read files c.args.rule c.args.entries.now) c.new-sources.result.items (g.H.Host.world c.args.host.now) c.new-sources.ensures.items);
 }
 
 pub returns-in_err-source-clause-told : goal.returns-in_err-source-clause-told
@@ -29,15 +25,16 @@ returns-in_err-source-clause-told g c = λ files told.
     let at = slice_get_read c.args.entries.now _ c.loop-entry.entry-index c.entry-item.result refl (omega arith) c.entry-item.is in
     let before = c.loop-entry.invariant.told files told in
     rw (p.1, p.2) (
-    each_halts (source_reading files c.args.rule) c.args.entries.now c.loop-entry.entry-index c.entry-item.result (g.H.Host.world c.args.host.now) (g.H.Host.world c.loop-entry.host) (g.H.Host.world c.fetch_source.new.host) _ at before.0
-    (c.in_err-source.ensures.told files (before.0.quiet.files ∙ told)))
+    goes_halts (λ j e. source_read files c.args.rule e) c.args.entries.now c.loop-entry.entry-index c.entry-item.result (each_read files c.args.rule c.args.entries.now) c.loop-entry.sources.items
+    (g.H.Host.world c.args.host.now) (g.H.Host.world c.loop-entry.host) (g.H.Host.world c.fetch_source.new.host) _ at before.1 (c.in_err-source.ensures.told files before.0))
 
 pub returns-in-Err-clause-told : goal.returns-in-Err-clause-told
 returns-in-Err-clause-told g c = λ files told.
     let at = slice_get_read c.args.entries.now _ c.loop-entry.entry-index c.entry-item.result refl (omega arith) c.entry-item.is in
     let before = c.loop-entry.invariant.told files told in
-    let got = c.in_ok-source.ensures.told files (before.0.quiet.files ∙ told) in
-    each_short (source_reading files c.args.rule) c.args.entries.now c.loop-entry.entry-index c.entry-item.result (g.H.Host.world c.args.host.now) (g.H.Host.world c.loop-entry.host) (g.H.Host.world c.fetch_source.new.host) at before.0 got.0
+    let got = c.in_ok-source.ensures.told files before.0 in
+    goes_short (λ j e. source_read files c.args.rule e) c.args.entries.now c.loop-entry.entry-index c.entry-item.result (each_read files c.args.rule c.args.entries.now) c.loop-entry.sources.items
+    (g.H.Host.world c.args.host.now) (g.H.Host.world c.loop-entry.host) (g.H.Host.world c.fetch_source.new.host) at before.1 got.0
 
 pub loop-entry-preserved : goal.loop-entry-preserved
 loop-entry-preserved g c =
@@ -49,16 +46,14 @@ loop-entry-preserved g c =
       later = let x = c.loop-entry.invariant.later in let y = c.fetch_source.ensures.keeps.later in omega arith;
       told = λ files told.
           let before = c.loop-entry.invariant.told files told in
-          let got = c.in_ok-source.ensures.told files (before.0.quiet.files ∙ told) in (
-            reads_more (source_reading files c.args.rule) c.args.entries.now c.loop-entry.entry-index c.entry-item.result (g.H.Host.world c.args.host.now) (g.H.Host.world c.loop-entry.host) (g.H.Host.world c.fetch_source.new.host) at before.0 got.0,
-            zip_more (λ e s. source_in files c.args.rule e ≡ Ok s) c.args.entries.now c.loop-entry.sources.items c.push.new.self.items c.loop-entry.entry-index c.entry-item.result c.in_ok-source.source at c.in-Ok.ensures.items before.1 got.1,
+          let got = c.in_ok-source.ensures.told files before.0 in (
+            got.0.quiet.files ∙ before.0,
+            goes_step (λ j e. source_read files c.args.rule e) c.args.entries.now c.loop-entry.entry-index c.entry-item.result c.in_ok-source.source (each_read files c.args.rule c.args.entries.now) c.loop-entry.sources.items c.push.new.self.items
+                (g.H.Host.world c.args.host.now) (g.H.Host.world c.loop-entry.host) (g.H.Host.world c.fetch_source.new.host) at c.in-Ok.ensures.items before.1 got.0 got.1,
           );
     }
 
 pub returns-clause-told : goal.returns-clause-told
 returns-clause-told g c = λ files told.
-    let all : take c.loop-entry.entry-index c.args.entries.now ≡ c.args.entries.now = take_all _ _ (omega arith) in
-    let now = c.loop-entry.invariant.told files told in (
-      subst (λ es. HasRead (read_each (source_reading files c.args.rule) es) (g.H.Host.world c.args.host.now) (g.H.Host.world c.loop-entry.host)) all now.0,
-      each_zip (source_in files c.args.rule) c.args.entries.now c.loop-entry.sources.items (subst (λ (es : List SampleEntry). AllZip (λ e s. source_in files c.args.rule e ≡ Ok s) es c.loop-entry.sources.items) all now.1),
-    )
+    let now = c.loop-entry.invariant.told files told in
+    goes_ended (λ j e. source_read files c.args.rule e) c.args.entries.now c.loop-entry.entry-index (each_read files c.args.rule c.args.entries.now) c.loop-entry.sources.items (g.H.Host.world c.args.host.now) (g.H.Host.world c.loop-entry.host) (omega arith) now.1

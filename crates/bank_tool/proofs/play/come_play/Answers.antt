@@ -1,12 +1,12 @@
-use Rattle.command_plan.proofs.Promised.{ends_early}
-use Rattle.bank_tool.specs.Play.{said_in, play_reading, saying, IsPlayed}
+use Rattle.command_plan.proofs.Promised.{first_ends}
+use Rattle.bank_tool.specs.Played.{said_read, saying, IsPlayed}
 use Rattle.bank_tool.proofs.PlaySteps.{plays_none, plays_some}
 use Rattle.bank_tool.proofs.play.come_play.Goals as goal
 
 pub returns-in-Err-clause-told : goal.returns-in-Err-clause-told
 returns-in-Err-clause-told g c = λ files told.
-    ends_early (play_reading files c.args.kind c.args.file.now c.args.entry c.args.count) (saying c.args.count) (IsPlayed (said_in files c.args.kind c.args.file.now c.args.entry c.args.count))
-    (g.H.Host.world c.args.host.now) (g.H.Host.world c.fetch_outputs.new.host) c.in-Err.status (c.in-Err.ensures.told files told)
+    let read = said_read files c.args.kind c.args.file.now c.args.entry c.args.count in
+    first_ends read (λ ls. saying c.args.count) (IsPlayed read.gives) (g.H.Host.world c.args.host.now) (g.H.Host.world c.fetch_outputs.new.host) c.in-Err.status (c.in-Err.ensures.told files told)
 
 pub returns-then-count-eq0-clause-told : goal.returns-then-count-eq0-clause-told
 returns-then-count-eq0-clause-told g c = λ files told.

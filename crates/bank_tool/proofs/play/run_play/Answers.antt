@@ -1,11 +1,11 @@
 use Rattle.command_plan.proofs.Promised.{promised}
-use Rattle.bank_tool.specs.Play.{said_in, play_course, IsPlayed}
+use Rattle.bank_tool.specs.Played.{said_read, play_course, IsPlayed}
 use Rattle.bank_tool.proofs.PlaySteps.{answers_play}
 use Rattle.bank_tool.proofs.play.run_play.Goals as goal
 
 pub returns-clause-told : goal.returns-clause-told
 returns-clause-told g c = λ files told.
-    promised (play_course files c.args.kind c.args.file.now c.args.entry c.args.count) (IsPlayed (said_in files c.args.kind c.args.file.now c.args.entry c.args.count))
+    promised (play_course files c.args.kind c.args.file.now c.args.entry c.args.count) (IsPlayed (said_read files c.args.kind c.args.file.now c.args.entry c.args.count).gives)
     (g.H.Host.world c.args.host.now) (g.H.Host.world c.come_play-status.new.host) (g.H.Host.world c.finish.new.host) _ _
     c.come_play-status.ensures.keeps.later (c.come_play-status.ensures.told files told) c.finish.ensures
 

@@ -1,7 +1,7 @@
-use Rattle.std.proofs.Common.{◌≡◌, Option, sym, subst, ◌∙◌, map, string_bytes}
+use Rattle.std.proofs.Common.{◌≡◌, Option, sym, subst, ◌∙◌}
 use Rattle.std.specs.Result.{IfOk}
 use Rattle.bank_tool.specs.declared.words.Command.{Command}
-use Rattle.bank_tool.proofs.CommandSteps.{command_is, command_is_not}
+use Rattle.bank_tool.proofs.WordSteps.{command_is, command_is_not}
 use Rattle.bank_tool.proofs.words.read_words.Goals as goal
 
 pub returns-then-may_all_stand : goal.returns-then-may_all_stand

@@ -77,6 +77,12 @@ compare: build/adbank outside
 	@cmp examples/tone.wav crates/adbank/data/tone.wav
 	@python3 -B tests/outside/compare_banks.py build/adbank
 
+# Damaged files and words, each run compared with the plain programs, for so many seconds; SEED repeats a run.
+SECONDS ?= 60
+.PHONY: fuzz
+fuzz: build/adbank
+	@python3 -B tests/outside/fuzz.py build/adbank $(SECONDS) $(SEED)
+
 # What stands beside the program, each thing by a test of its own in plain Python.
 outside: build/adbank
 	@for test in tests/outside/test_*.py; do echo "$$test"; python3 -B "$$test" build/adbank; done

@@ -38,6 +38,7 @@ CASES = {
     "a lane that the first block cannot have": (certificate([FIRST, layer(0, 1, 1, [(0, 0, 0)])]), GOOD),
     "a bound one above": (certificate([FIRST], 17), "fault 7 s Bound 0 17 16\n"),
     "a bound one below": (certificate([FIRST], 15), "fault 7 s Bound 0 15 16\n"),
+    "a value below": (certificate([layer(0, 0, 65535, [(0, 0, 10)])]), GOOD),
     "the greatest value": (certificate([layer(0, 0, 65535, [(0, 0, 2**60 - 1)])]), "fault 7 s CellFault 0 0 0 1152921504606846975 16\n"),
     "a value too great": (certificate([layer(0, 0, 65535, [(0, 0, 2**60)])]), "fault 7 s CellRange 34\n"),
     "cells that are not there": (certificate([layer(0, 0, 65535, [(0, 0, 16)], 2**32 - 1)]), "fault 7 s Short 46\n"),
@@ -83,6 +84,14 @@ class Check(unittest.TestCase):
         for name, (data, line) in CASES.items():
             with self.subTest(name):
                 self.assertEqual(self.said(data), line)
+
+    def test_another_bank(self):
+        """A bank of another number of blocks, and one without blocks."""
+        whole = (self.folder / "b").read_bytes()
+        for blocks, line in [(bytes(9) + b"\x01" + bytes(8), "fault 4 s Shape Blocks 2 1\n"), (b"", "fault 4 b BadEntry 0\n")]:
+            with self.subTest(line):
+                (self.folder / "b").write_bytes(whole[:12] + struct.pack("<I", 4 + len(blocks)) + whole[16:24] + blocks)
+                self.assertEqual(run([PROGRAM, "check", "m.toml"], self.folder).stdout, line)
 
     def test_cut_short(self):
         """Each front of a certificate is cut short in the field that it tells."""

@@ -73,27 +73,20 @@ fn refuses_another_length(rt: HostRuntime) -> Result<(), Fail> {
 #[test]
 fn refuses_other_words(rt: HostRuntime) -> Result<(), Fail> {
     let alloc = rt.alloc();
-    let mut host = SteadyHost::new(alloc);
-    let status = run(alloc, &mut host, words(alloc, &["help"])?.as_slice());
-    assert_eq!(rt; status.code(), 2);
-    assert_eq!(rt; host.said(), "fault 2 words\n".as_bytes());
     for texts in [
         &[] as &[&str],
-        &["help", "block"],
-        &["--help"],
+        &["compile"],
+        &["play", "brr", "b", "00", "5"],
         &["-h"],
-        &["--version"],
-        &["-V"],
         &["block", "IN"],
-        &["block", "IN", "OUT", "MORE"],
         &["block", "", "OUT"],
         &["block", "IN", "-OUT"],
-        &["block", "--", "IN", "OUT"],
-        &["bloc", "IN", "OUT"],
         &["Block", "IN", "OUT"],
-        &["decompile", "spu", "a", "b"],
     ] {
-        assert!(rt; read_words(alloc, words(alloc, texts)?.as_slice())?.is_none());
+        let mut host = SteadyHost::new(alloc);
+        let status = run(alloc, &mut host, words(alloc, texts)?.as_slice());
+        assert_eq!(rt; status.code(), 2);
+        assert_eq!(rt; host.said(), "fault 2 words\n".as_bytes());
     }
     let command = read_words(alloc, words(alloc, &["block", "a", "b-"])?.as_slice())?;
     let Some(Command::Block { input, output }) = command else {

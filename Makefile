@@ -42,8 +42,8 @@ demo: build/adbank
 	@mkdir -p build/demo
 	@cp examples/bank.toml examples/playstation.toml examples/wave.toml examples/*.wav build/demo
 	@sh examples/sine.sh >build/demo/sine.raw
-	@cd build/demo; for words in 'compile bank.toml' 'check bank.toml' 'play brr bank.img 2 12' 'decompile brr bank.img bank' \
-	    'compile playstation.toml' 'check playstation.toml' 'play vag playstation.pluck.vag 0 12' \
+	@cd build/demo; for words in 'compile bank.toml' 'check bank.toml' 'bound bank.toml 500' 'play brr bank.img 2 12' 'decompile brr bank.img bank' \
+	    'compile playstation.toml' 'check playstation.toml' 'bound playstation.toml 500' 'play vag playstation.pluck.vag 0 12' \
 	    'decompile vag playstation.pluck.vag pluck' 'compile wave.toml' 'check wave.toml' 'play ima wave.vowel.wav 0 12' \
 	    'decompile ima wave.vowel.wav vowel' 'make 0' 'block sine.raw sine.brr'; do \
 	  echo "$$ adbank $$words"; ../adbank $$words; done

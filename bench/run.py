@@ -138,6 +138,45 @@ def search():
     print()
 
 
+def hiss(frames):
+    """Loud noise."""
+    state, out = 1, []
+    for _ in range(frames):
+        state = (state * 1664525 + 1013904223) % 2**32
+        out.append((state >> 16) - 32768)
+    return out
+
+
+def pluck(frames):
+    """A string that is plucked: noise goes round and grows dull."""
+    ring, out = hiss(100), []
+    for at in range(frames):
+        out.append(ring[at % 100])
+        ring[at % 100] = (ring[at % 100] + ring[(at + 1) % 100]) // 2
+    return out
+
+
+def square(frames):
+    """Both ends of 16 bits by turns."""
+    return [32767 if at // 40 % 2 == 0 else -32768 for at in range(frames)]
+
+
+def bounds():
+    """Bounds near the error of one second of sound, by effort."""
+    print("%-34s %10s %12s" % ("bound, 32000 frames", "seconds", "bound/error"))
+    for name, make in (("noise", hiss), ("pluck", pluck), ("square", square)):
+        write(name + ".wav", wave(make(32000)))
+        for kind in ("brr", "spu"):
+            own = name + kind
+            write(own + ".toml", manifest(own, name + ".wav", kind))
+            run("compile", own + ".toml")
+            for effort in ("0", "500"):
+                taken, said = run("bound", own + ".toml", effort)
+                error, bound = (int(said.split(word)[1].split()[0]) for word in (" error ", " bound "))
+                print("%-34s %10.3f %12.3f" % ("%s, %s, effort %s" % (name, kind, effort), taken, bound / error if error else 1))
+    print()
+
+
 def profile(name):
     """The instructions of the two parts of a compilation, which are the same on every run."""
     if shutil.which("valgrind") is None:
@@ -170,6 +209,7 @@ def main():
     reading()
     beams()
     search()
+    bounds()
     profile("f8192.toml")
 
 

@@ -9,8 +9,8 @@ _adbank() {
     local word=${COMP_WORDS[COMP_CWORD]} entries
     COMPREPLY=()
     case $COMP_CWORD,${COMP_WORDS[1]} in
-        1,*) mapfile -t COMPREPLY < <(compgen -W 'compile check decompile play make block' -- "$word") ;;
-        2,compile | 2,check) _adbank_files -f -X '!*.toml' -o plusdirs -- "$word" ;;
+        1,*) mapfile -t COMPREPLY < <(compgen -W 'compile check bound decompile play make block' -- "$word") ;;
+        2,compile | 2,check | 2,bound) _adbank_files -f -X '!*.toml' -o plusdirs -- "$word" ;;
         2,block | 3,block | 3,play | 3,decompile | 4,decompile) _adbank_files -f -- "$word" ;;
         2,play | 2,decompile) mapfile -t COMPREPLY < <(compgen -W 'brr vag ima' -- "$word") ;;
         4,play)

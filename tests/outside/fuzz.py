@@ -39,7 +39,7 @@ BANKS = (
 )
 # The most that a manifest may ask for, and how loud a sound may be where cells are searched, since the plain search is slow.
 MOST_BEAM, MOST_BUDGET, MOST_LOUD = 2, 600, 40
-WORDS = ("block", "compile", "check", "decompile", "play", "make", "brr", "vag", "ima", "dsp", "0", "63", "64", "00", "+1", "1000000", "1000001", "4294967296")
+WORDS = ("block", "compile", "check", "bound", "decompile", "play", "make", "brr", "vag", "ima", "dsp", "0", "63", "64", "00", "+1", "1000000", "1000001", "4294967296")
 ODD_WORDS = ("", "-", "--", "-h", "--help", "--version", "help", "comp", "Compile", "check ", "\u00e9", OWN, "absent")
 
 
@@ -88,7 +88,7 @@ def words_for(rng, files, name):
     if name == "raw":
         return ["block", "raw", "out"]
     if name.endswith((".cert", ".toml")) or rng.randrange(3) == 0:
-        return ["check", OWN]
+        return ["check", OWN] if rng.randrange(4) else ["bound", OWN, str(rng.choice((0, 1, 50)))]
     if rng.randrange(2):
         return ["decompile", form, name, "out"]
     return ["play", form, name, str(rng.choice((0, 0, 1, 63))), str(rng.randrange(200))]
@@ -128,10 +128,11 @@ def work(program, seed, seconds, results):
         begin = time.monotonic()
         while time.monotonic() < begin + seconds and len(differing) < 5:
             words, files = any_case(rng, banks)
-            if words[:1] in (["compile"], ["check"]) and not is_quick(files):
+            if words[:1] in (["compile"], ["check"], ["bound"]) and not is_quick(files):
                 continue
             count += 1
-            found = differences(end_of(words, files), run_in(pathlib.Path(place), program, files, words))
+            end = run_in(pathlib.Path(place), program, files, words)
+            found = differences(end_of(words, files, end.said), end)
             if found:
                 differing.append((seed, count, words, found, files))
     results.put((count, differing, resource.getrusage(resource.RUSAGE_CHILDREN).ru_maxrss))

@@ -215,16 +215,22 @@ def check_sample(files, manifest, form, machine, sample, image, at):
     return sample_line(form, sample, error_of(machine, sample, blocks), bound, levels)
 
 
+def image_of(files, manifest, count):
+    """The image of a bank of so many samples, where its format has one."""
+    if manifest["format"] != "brr":
+        return None
+    data = fetch(files, manifest["bank"])
+    with told_as(4, manifest["bank"]):
+        plain_readers.refuse_long(data)
+        image = plain_readers.image(data)
+        same("Entries", len(image), count)
+    return image
+
+
 def report(files, own):
     """What is said of a bank that is accepted."""
     manifest, form, found = open_bank(files, own)
-    machine, image = machine_of(manifest), None
-    if manifest["format"] == "brr":
-        data = fetch(files, manifest["bank"])
-        with told_as(4, manifest["bank"]):
-            plain_readers.refuse_long(data)
-            image = plain_readers.image(data)
-            same("Entries", len(image), len(found))
+    machine, image = machine_of(manifest), image_of(files, manifest, len(found))
     lines = [check_sample(files, manifest, form, machine, sample, image, at) for at, sample in enumerate(found)]
     return "".join(lines) + f"done {len(found)} samples 0 files\n"
 

@@ -4,13 +4,14 @@ The rules are those of docs/FORMATS.md; nothing here is shared with the program.
 """
 
 from plain_block import form_block
+from plain_bound import bound_bank
 from plain_check import check_bank
 from plain_compiler import Outcome, compile_bank
 from plain_decompile import decompile
 from plain_play import play
 
 FORMS = ("brr", "vag", "ima")
-MOST_ENTRY, MOST_COUNT, MOST_NUMBER = 63, 1000000, 4294967295
+MOST_ENTRY, MOST_COUNT, MOST_EFFORT, MOST_NUMBER = 63, 1000000, 100000, 4294967295
 
 
 def number(word, most):
@@ -25,7 +26,7 @@ def may_stand(word):
     return word != "" and not word.startswith("-")
 
 
-def run_of(words):
+def run_of(words, said):
     """The run of a command over some files, for the words after the program's name; None where they are no command."""
     match words if all(map(may_stand, words)) else ():
         case ["block", source, stored]:
@@ -34,6 +35,8 @@ def run_of(words):
             return lambda files: compile_bank(files, manifest)
         case ["check", manifest]:
             return lambda files: check_bank(files, manifest)
+        case ["bound", manifest, effort] if number(effort, MOST_EFFORT) is not None:
+            return lambda files: bound_bank(files, manifest, said)
         case ["decompile", form, file, out] if form in FORMS:
             return lambda files: decompile(files, form, file, out)
         case ["play", form, file, entry, count] if form in FORMS:
@@ -42,7 +45,7 @@ def run_of(words):
     return None
 
 
-def end_of(words, files):
-    """How a run of these words over these files must end; `make` is not run here."""
-    done = run_of(words)
+def end_of(words, files, said):
+    """How a run of these words over these files that said this must end; `make` is not run here."""
+    done = run_of(words, said)
     return done(files) if done else Outcome(2, b"fault 2 words\n", files)

@@ -90,9 +90,10 @@ class Install(unittest.TestCase):
         for name in ("my bank.toml", "x.toml", "x.wav", "a b/y.toml"):
             (self.folder / name).touch()
         (self.folder / "x.img").write_bytes(b"SNBI\1\0\3\0")
-        self.assertEqual(self.offers(""), ["block", "check", "compile", "decompile", "make", "play"])
+        self.assertEqual(self.offers(""), ["block", "bound", "check", "compile", "decompile", "make", "play"])
         self.assertEqual(self.offers("c"), ["check", "compile"])
         self.assertEqual(self.offers("check", ""), ["a b", "my bank.toml", "x.toml"])
+        self.assertEqual(self.offers("bound", ""), ["a b", "my bank.toml", "x.toml"])
         self.assertEqual(self.offers("decompile", ""), ["brr", "ima", "vag"])
         self.assertEqual(self.offers("decompile", "brr", "x"), ["x.img", "x.toml", "x.wav"])
         self.assertEqual(self.offers("compile", ""), ["a b", "my bank.toml", "x.toml"])

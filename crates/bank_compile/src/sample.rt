@@ -14,13 +14,13 @@ ghost use Rattle.bank_compile.specs.Bank.{IsOut};
 
 use crate::joined::{bound_of, certificates, joined, levels_of};
 use crate::segments::search_segments;
-use adpcm_nums::{Bytes, LoopAt, NoMemory, Samples, Text};
-use bank_kinds::{Encode, outputs};
+use adpcm_nums::{Bytes, NoMemory, Samples, Text};
+use bank_kinds::{Encode, outputs, shown};
 use bound_cert::write_cert;
 use branch_bound::Found;
 use loop_fit::Fitted;
 use machine_core::{Choice, Kind};
-use report_text::{LoopShown, SampleReport};
+use report_text::SampleReport;
 use std::alloc::Global;
 
 /// A compiled sample.
@@ -40,17 +40,6 @@ pub struct SampleOut {
     pub cert: Bytes,
     /// What is told of it.
     pub report: SampleReport,
-}
-
-/// Where the loop of a fitted sound is, as it is told.
-fn shown(loop_block: Option<u32>, loop_frames: Option<LoopAt>) -> LoopShown
-    ensures { result ≡ loop_shown loop_block loop_frames }
-{
-    match (loop_block, loop_frames) {
-        (Some(block), _) => LoopShown::Block { block },
-        (None, Some(at)) => LoopShown::Frames { at },
-        (None, None) => LoopShown::NoLoop,
-    }
 }
 
 /// How many outputs of a fitted sound count as played, where a block has so many samples.

@@ -7,21 +7,26 @@ use Rattle.command_plan.specs.Ending.{has_line, ending_of}
 use Rattle.command_plan.specs.Steps.{Told}
 use Rattle.command_plan.specs.Promise.{Promises}
 use Rattle.command_plan.proofs.Promised.{refused_at_once}
-use Rattle.bank_tool.specs.declared.words.Command.{Command}
-use Rattle.bank_tool.specs.declared.words.Command.TheVariants.{Block, Compile, Check, Decompile, Play}
+use Rattle.tool_words.specs.declared.words.Command.{Command}
+use Rattle.tool_words.specs.declared.words.Command.TheVariants.{Block, Compile, Check, Bound, Decompile, Play, Make}
 use Rattle.machine_core.specs.declared.state.Kind.{Kind}
-use Rattle.bank_tool.specs.Block.{block_course, targets_in, IsBlock, AnswersBlock}
-use Rattle.bank_tool.specs.Decompile.{decompile_course, entries_in, IsDecompiled, AnswersDecompile}
-use Rattle.bank_tool.proofs.DecompiledSteps.{answers_decompile, Sounds}
-use Rattle.bank_tool.specs.Played.{said_read, play_course, IsPlayed, AnswersPlay}
-use Rattle.bank_tool.proofs.PlaySteps.{answers_play}
-use Rattle.bank_tool.proofs.BlockSteps.{answers_block}
-use Rattle.bank_tool.specs.Compile.{compile_course, MayStore}
-use Rattle.bank_tool.specs.Compiled.{AnswersCompile}
-use Rattle.bank_tool.proofs.CompiledSteps.{answers_compile}
-use Rattle.bank_tool.specs.Check.{check_course}
-use Rattle.bank_tool.specs.Checked.{MayTell, AnswersCheck}
-use Rattle.bank_tool.proofs.CheckedSteps.{answers_check}
+use Rattle.tool_block.specs.Block.{block_course, targets_in, IsBlock, AnswersBlock}
+use Rattle.tool_decompile.specs.Decompile.{decompile_course, entries_in, IsDecompiled, AnswersDecompile}
+use Rattle.tool_decompile.proofs.DecompiledSteps.{answers_decompile, Sounds}
+use Rattle.tool_play.specs.Played.{said_read, play_course, IsPlayed, AnswersPlay}
+use Rattle.tool_play.proofs.PlaySteps.{answers_play}
+use Rattle.tool_block.proofs.BlockSteps.{answers_block}
+use Rattle.tool_compile.specs.Compile.{compile_course, MayStore}
+use Rattle.tool_compile.specs.Compiled.{AnswersCompile}
+use Rattle.tool_compile.proofs.CompiledSteps.{answers_compile}
+use Rattle.tool_check.specs.Check.{check_course}
+use Rattle.tool_check.specs.Checked.{MayTell, AnswersCheck}
+use Rattle.tool_check.proofs.CheckedSteps.{answers_check}
+use Rattle.tool_bound.specs.Bound.{bound_course}
+use Rattle.tool_bound.specs.Bounded.{MayBound, AnswersBound}
+use Rattle.tool_bound.proofs.BoundedSteps.{answers_bound}
+use Rattle.tool_compile.specs.Make.{make_course, IsMade, AnswersMake}
+use Rattle.tool_compile.proofs.MakeSteps.{answers_make}
 use Rattle.bank_tool.specs.Commands.{course_of, choice_of}
 
 -- words that are no command, and the line that says so
@@ -84,3 +89,21 @@ pub check_obeys : (command : Command) (files : Files) (x manifest : List ℕ) (a
 check_obeys command files x manifest a b r is m h =
     subst (λ (k : Command). Promises (course_of (Some k) files) (choice_of (Some k) files) a b r) (sym is)
     (subst (λ (n : List ℕ). Promises (check_course files n) (MayTell files n) a b r) m h)
+
+-- words that are `bound`
+pub bound_answers : (o : Option Command) (files : Files) (manifest : List ℕ) (effort : ℕ) (a b : World) (r : Status) → o ≡ Some (Bound manifest effort) → Promises (course_of o files) (choice_of o files) a b r → AnswersBound files manifest a b r
+bound_answers o files manifest effort a b r e h = answers_bound files manifest a b r (subst (λ (x : Option Command). Promises (course_of x files) (choice_of x files) a b r) e h)
+
+-- a command that is `bound`
+pub bound_obeys : (command : Command) (files : Files) (x manifest : List ℕ) (effort : ℕ) (a b : World) (r : Status) → command ≡ Bound x effort → manifest ≡ x → Promises (bound_course files manifest) (MayBound files manifest) a b r → Promises (course_of (Some command) files) (choice_of (Some command) files) a b r
+bound_obeys command files x manifest effort a b r is m h =
+    subst (λ (k : Command). Promises (course_of (Some k) files) (choice_of (Some k) files) a b r) (sym is)
+    (subst (λ (n : List ℕ). Promises (bound_course files n) (MayBound files n) a b r) m h)
+
+-- words that are `make`
+pub make_answers : (o : Option Command) (files : Files) (number : ℕ) (a b : World) (r : Status) → o ≡ Some (Make number) → Promises (course_of o files) (choice_of o files) a b r → AnswersMake number a b r
+make_answers o files number a b r e h = answers_make number a b r (subst (λ (x : Option Command). Promises (course_of x files) (choice_of x files) a b r) e h)
+
+-- a command that is `make`
+pub make_obeys : (command : Command) (files : Files) (number : ℕ) (a b : World) (r : Status) → command ≡ Make number → Promises make_course (IsMade number) a b r → Promises (course_of (Some command) files) (choice_of (Some command) files) a b r
+make_obeys command files number a b r is h = subst (λ (m : Command). Promises (course_of (Some m) files) (choice_of (Some m) files) a b r) (sym is) h

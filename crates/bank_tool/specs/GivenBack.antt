@@ -9,7 +9,7 @@ use Rattle.bank_kinds.specs.Replay.{SampleReplays}
 use Rattle.manifest_reader.specs.Stored.{vag_name_of, ima_name_of}
 use Rattle.decompile_core.specs.declared.recovered.Recovered.{Recovered}
 use Rattle.decompile_core.specs.Recovered.{first_settles}
-use Rattle.bank_tool.specs.EntryFiles.{ReadsAs}
+use Rattle.tool_decompile.specs.EntryFiles.{ReadsAs}
 
 -- the file of a bank in which a sample stands
 abbrev pub file_with : Kind → List ℕ → List ℕ → List ℕ

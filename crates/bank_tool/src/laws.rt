@@ -8,7 +8,7 @@ ghost use Rattle.manifest_reader.specs.Stored.{first_pass_of};
 ghost use Rattle.bank_kinds.specs.Replay.{SampleReplays};
 ghost use Rattle.decompile_core.specs.declared.recovered.Recovered.{Recovered};
 ghost use Rattle.decompile_core.specs.Decompiled.{decompiled};
-ghost use Rattle.bank_tool.specs.Decompile.{form_of};
+ghost use Rattle.tool_decompile.specs.Decompile.{form_of};
 ghost use Rattle.bank_tool.specs.GivenBack.{file_with, place_in, IsCompiledAt, IsFirstPass};
 
 use decompile_core::{entries_are, given_back};

@@ -5,27 +5,28 @@ ghost use Rattle.host_files.specs.Outside.{Files, Rose};
 ghost use Rattle.command_plan.specs.Ending.{is_device};
 ghost use Rattle.command_plan.specs.Steps.{Keeps};
 ghost use Rattle.command_plan.specs.Promise.{Promises, Finishes};
-ghost use Rattle.bank_tool.specs.Words.{command_of};
-ghost use Rattle.bank_tool.specs.Block.{AnswersBlock};
-ghost use Rattle.bank_tool.specs.Compiled.{AnswersCompile};
-ghost use Rattle.bank_tool.specs.Checked.{AnswersCheck};
-ghost use Rattle.bank_tool.specs.Decompile.{AnswersDecompile};
-ghost use Rattle.bank_tool.specs.Played.{AnswersPlay};
-ghost use Rattle.bank_tool.specs.Make.{AnswersMake};
+ghost use Rattle.tool_words.specs.Words.{command_of};
+ghost use Rattle.tool_block.specs.Block.{AnswersBlock};
+ghost use Rattle.tool_compile.specs.Compiled.{AnswersCompile};
+ghost use Rattle.tool_check.specs.Checked.{AnswersCheck};
+ghost use Rattle.tool_bound.specs.Bounded.{AnswersBound};
+ghost use Rattle.tool_decompile.specs.Decompile.{AnswersDecompile};
+ghost use Rattle.tool_play.specs.Played.{AnswersPlay};
+ghost use Rattle.tool_compile.specs.Make.{AnswersMake};
 ghost use Rattle.bank_tool.specs.Commands.{course_of, choice_of};
 
-use crate::block::run_block;
-use crate::check::run_check;
-use crate::compile::run_compile;
-use crate::decompile::run_decompile;
-use crate::make::run_make;
-use crate::play::run_play;
-use crate::words::{Command, read_words};
 use adpcm_nums::NoMemory;
 use command_plan::{Status, finish};
 use decompile_core::sounds_for_ever;
 use host_files::Host;
 use std::alloc::Global;
+use tool_block::run_block;
+use tool_bound::run_bound;
+use tool_check::run_check;
+use tool_compile::{run_compile, run_make};
+use tool_decompile::run_decompile;
+use tool_play::run_play;
+use tool_words::{Command, read_words};
 
 /// Does what the words after the program's name ask for, and says how that ended.
 pub fn run<H: Host>(alloc: Global, host: &mut H, words: &[String]) -> Status
@@ -48,6 +49,10 @@ pub fn run<H: Host>(alloc: Global, host: &mut H, words: &[String]) -> Status
     // blocks that may be stored has an error below a told bound. The files stay as they were.
     ensures check { (files : Files) (manifest : List ℕ) → (H.world host.old).files ≡ Some files → command_of (map string_bytes words.now) ≡ Some (Command.Check manifest) →
         AnswersCheck files manifest (H.world host.old) (H.world host.new) result }
+    // What it says of `bound`, whoever made the stored files and whatever the effort: each stored list is legal, its told error is exact,
+    // and no list of blocks that may be stored has an error below a told bound. The files stay as they were.
+    ensures bound { (files : Files) (manifest : List ℕ) (effort : ℕ) → (H.world host.old).files ≡ Some files → command_of (map string_bytes words.now) ≡ Some (Command.Bound manifest effort) →
+        AnswersBound files manifest (H.world host.old) (H.world host.new) result }
     // What it says of `decompile`: the stored files hold the entries, which sound as their players.
     ensures decompile { (files : Files) (kind : Kind) (file output : List ℕ) → (H.world host.old).files ≡ Some files → command_of (map string_bytes words.now) ≡ Some (Command.Decompile kind file output) →
         AnswersDecompile files kind file output (H.world host.old) (H.world host.new) result }
@@ -86,6 +91,9 @@ fn obey<H: Host>(alloc: Global, host: &mut H, command: &Command) -> Status
         }
         Command::Compile { manifest } => run_compile(alloc, host, manifest.as_str()),
         Command::Check { manifest } => run_check(alloc, host, manifest.as_str()),
+        Command::Bound { manifest, effort } => {
+            run_bound(alloc, host, manifest.as_str(), u64::from(*effort))
+        }
         Command::Decompile { kind, file, output } => {
             run_decompile(alloc, host, *kind, file.as_str(), output.as_str())
         }

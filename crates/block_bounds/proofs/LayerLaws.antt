@@ -5,7 +5,6 @@ use Rattle.std.proofs.lemmas.List.{length-drop}
 use Rattle.std.proofs.lemmas.Grind.{drop-set_at}
 use Rattle.row_bound.specs.declared.layer.Layer.{Layer}
 use Rattle.row_bound.proofs.BoundLaws.{drop-end}
-use Rattle.window_floor.specs.Row.{Row}
 use Rattle.window_floor.specs.Windows.{Windows}
 use Rattle.block_bounds.specs.Outputs.{weight_of}
 use Rattle.block_bounds.specs.Covers.{Covers, LayersFor, none, more}
@@ -26,12 +25,12 @@ pub filled-none : (b : Windows) (leaving : Bool) (targets : List ℤ) (layers : 
 filled-none b leaving targets layers p e f = record { all = both-empty b leaving _ _ _ _ (drop-end targets (p + 2) (omega (arith, f))) (drop-end layers p (omega (arith, e))) }
 
 next-layer : (b : Windows) (leaving : Bool) (ts us : List ℤ) (r o x : ℤ) (layers ls : List Layer) (layer : Layer) (weight : ℕ) → ts ≡ x ∷ us → layers ≡ layer ∷ ls → weight ≡ weight_of leaving (length us)
-    → Covers b.row b.first b.second r o x weight layer → LayersFor b leaving us o x ls → LayersFor b leaving ts r o layers
+    → Covers b r o x weight layer → LayersFor b leaving us o x ls → LayersFor b leaving ts r o layers
 next-layer b leaving ts us r o x layers ls layer weight e f g c rest =
-    rw (e, f) (more x us r o layer ls (subst (λ (n : ℕ). Covers b.row b.first b.second r o x n layer) g c) rest)
+    rw (e, f) (more x us r o layer ls (subst (λ (n : ℕ). Covers b r o x n layer) g c) rest)
 
 pub filled-more : (b : Windows) (leaving : Bool) (targets : List ℤ) (layers : List Layer) (p n weight : ℕ) (layer : Layer) → n ≡ p + 1 → p < length layers → length targets ≡ length layers + 2 → weight ≡ weight_of leaving (length layers - n)
-    → Covers b.row b.first b.second (get_or targets p (pos 0)) (get_or targets (p + 1) (pos 0)) (get_or targets (p + 2) (pos 0)) weight layer
+    → Covers b (get_or targets p (pos 0)) (get_or targets (p + 1) (pos 0)) (get_or targets (p + 2) (pos 0)) weight layer
     → FilledFrom b leaving targets layers n → FilledFrom b leaving targets (slice_set layers p layer) p
 filled-more b leaving targets layers p n weight layer en h len ew c rest =
     let next : suc (p + 2) ≡ n + 2 = omega (arith, en) in
@@ -47,8 +46,8 @@ filled-more b leaving targets layers p n weight layer en h len ew c rest =
     record { all = next-layer b leaving _ _ _ _ _ _ _ layer weight ts ls (ew ∙ ap (weight_of leaving) (sym count)) c tail }
 
 -- the numbers of a layer, as the code holds them
-pub covers-as : (w : Row) (under over r o x u' v' r' o' x' : ℤ) (weight : ℕ) (layer : Layer) → u' ≡ under → v' ≡ over → r' ≡ r → o' ≡ o → x' ≡ x → Covers w u' v' r' o' x' weight layer → Covers w under over r o x weight layer
-covers-as w under over r o x u' v' r' o' x' weight layer eu ev er eo ex c = rw (sym eu, sym ev, sym er, sym eo, sym ex) c
+pub covers-as : (b : Windows) (r o x r' o' x' : ℤ) (weight : ℕ) (layer : Layer) → r' ≡ r → o' ≡ o → x' ≡ x → Covers b r' o' x' weight layer → Covers b r o x weight layer
+covers-as b r o x r' o' x' weight layer er eo ex c = rw (sym er, sym eo, sym ex) c
 
 pub filled-all : (b : Windows) (leaving : Bool) (targets : List ℤ) (layers : List Layer) (p : ℕ) → p ≡ 0 → FilledFrom b leaving targets layers p → LayersFor b leaving (drop 2 targets) (get_or targets 0 (pos 0)) (get_or targets 1 (pos 0)) layers
 filled-all b leaving targets layers p e f = (subst (λ (i : ℕ). FilledFrom b leaving targets layers i) e f).all

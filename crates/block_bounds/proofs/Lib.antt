@@ -1,6 +1,9 @@
-pub mod Coverage
 pub mod Sizes
+pub mod RowSums
+pub mod Clamped
+pub mod Coverage
 pub mod PlaceLaws
 pub mod StepLaws
+pub mod ReachLaws
 pub mod LayerLaws
 pub mod ListSums

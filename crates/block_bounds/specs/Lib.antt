@@ -1,3 +1,4 @@
+pub mod Clamps
 pub mod Outputs
 pub mod Covers
 pub mod Steps

@@ -25,16 +25,14 @@ fn fill(b: BlockWindows, targets: &[i32], leaving: bool, layers: &mut [Layer])
     requires count { length targets.now ≡ b.places + 2 }
     requires targets { AreSamples targets.now }
     requires layers { length layers.old ≡ b.places }
-    ensures { (samples : List ℤ) → LayersFor (windows_of b samples) leaving (drop 2 targets.now) (get_or targets.now 0 (pos 0)) (get_or targets.now 1 (pos 0)) layers.new }
+    ensures { (samples : List ℤ) → StandFor b samples → LayersFor (windows_of b samples) leaving (drop 2 targets.now) (get_or targets.now 0 (pos 0)) (get_or targets.now 1 (pos 0)) layers.new }
 {
     let mut place = b.places;
     while place > 0 {
         let weight = weight_at(leaving, b.places - place);
         place -= 1;
         let layer = layer_at(
-            b.row,
-            b.ends[0],
-            b.ends[1],
+            b,
             targets[place],
             targets[place + 1],
             targets[place + 2],
@@ -96,7 +94,7 @@ pub fn head_bound(
         → Outputs (windows_of b samples) leaving (drop 2 targets.now) (get_or targets.now 0 (pos 0)) (get_or targets.now 1 (pos 0)) r o c
         → result ≤ entering * square_of (b.row.scale *ℤ r -ℤ get_or targets.now 0 (pos 0)) + entering * square_of (b.row.scale *ℤ o -ℤ get_or targets.now 1 (pos 0)) + c }
 {
-    let blank = layer_at(b.row, 0, 0, 0, 0, 0, 1);
+    let blank = layer_at(b, 0, 0, 0, 1);
     let mut layers = [blank; 28];
     bound_in(
         b,
@@ -142,5 +140,47 @@ mod tests {
         ];
         let bound = head_bound(windows, &targets, 1, true, 1_000_000_000_000, 500);
         assert_eq!(rt; bound, 21_267_281);
+    }
+
+    /// By hand: under SPU's filter 1, where samples go from -4096 to 3584, an output 31128 leads to 32767 by clamping, at
+    /// 31128². Without clamping `64 z - 60 y` is 1867680 or 1834977 away from 0 where one of 0 leads to an end of 16 bits, and
+    /// `y² + 2 z²` at least that squared by `64² / 2 + 60²`. Samples up to 28672 clamp freely after 20000.
+    #[test]
+    fn clamped(rt: HostRuntime) {
+        let narrow = BlockWindows {
+            places: 1,
+            row: Window {
+                d: 64,
+                ca: 60,
+                cb: 0,
+                bias: 32,
+                errs: 63,
+                scale: 1,
+                norm: 7696,
+                wraps: false,
+            },
+            levels: Quantizer {
+                step: 512,
+                low: -8,
+                high: 7,
+            },
+            ends: [32767, -32768],
+        };
+        let wide = BlockWindows {
+            places: 1,
+            row: narrow.row,
+            levels: Quantizer {
+                step: 4096,
+                low: -8,
+                high: 7,
+            },
+            ends: [32767, -32768],
+        };
+        let over = head_bound(narrow, &[0, 0, 32767], 1, false, 1 << 40, 500);
+        let under = head_bound(narrow, &[0, 0, -32768], 1, false, 1 << 40, 500);
+        let free = head_bound(wide, &[0, 20000, 32767], 1, false, 1 << 40, 500);
+        assert_eq!(rt; over / 100_000, 6176);
+        assert_eq!(rt; under / 100_000, 5961);
+        assert_eq!(rt; free, 0);
     }
 }

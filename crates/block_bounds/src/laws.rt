@@ -1,4 +1,4 @@
-ghost use Rattle.std.specs.Prelude.{◌≤◌, ◌*◌, ℕ, ℤ, pos, ◌*ℤ◌, ◌-ℤ◌, ◌≤ℤ◌, Bool, List, []};
+ghost use Rattle.std.specs.Prelude.{◌≡◌, ◌⊎◌, ◌≤◌, ◌*◌, ℕ, ℤ, pos, ◌*ℤ◌, ◌-ℤ◌, Bool, List, []};
 ghost use Rattle.machine_core.specs.Decoder.{Decoder};
 ghost use Rattle.machine_core.specs.Blocks.{Blocks};
 ghost use Rattle.machine_core.specs.Sums.{cost_at, sum_of};
@@ -12,7 +12,7 @@ ghost use Rattle.block_bounds.specs.Covers.{AreSteps, LayersFor};
 
 /// What a linear decoder gives, clamps and wraps included, is a path of the layers that stand for it, at the same cost.
 pub fn outputs_are_paths()
-    ensures { (b : Windows) (leaving : Bool) (steps ts : List ℤ) (layers : List Layer) (tr to r o : ℤ) (c : ℕ) → pos 0 ≤ℤ b.row.scale → IsLadder steps → AreSteps b steps
+    ensures { (b : Windows) (leaving : Bool) (steps ts : List ℤ) (layers : List Layer) (tr to r o : ℤ) (c : ℕ) → (b.row.scale ≡ pos 1) ⊎ (b.row.scale ≡ pos 2) → IsLadder steps → AreSteps b steps
         → LayersFor b leaving ts tr to layers → Outputs b leaving ts tr to r o c → Path steps [] layers (b.row.scale *ℤ o -ℤ to) (b.row.scale *ℤ r -ℤ tr) c }
 {}
 

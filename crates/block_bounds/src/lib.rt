@@ -5,6 +5,7 @@ mod bound;
 mod laws;
 mod place;
 mod products;
+mod reach;
 mod steps;
 
 pub use bound::head_bound;

@@ -1,11 +1,15 @@
-ghost use Rattle.std.specs.Prelude.{◌≡◌, ◌⊎◌, ◌≤◌, ◌^◌, ◌+◌, ℤ, pos, negsuc, ◌*ℤ◌, ◌-ℤ◌, ◌≤ℤ◌, false, get_or};
+ghost use Rattle.std.specs.Prelude.{◌≡◌, ◌⊎◌, ◌≤◌, ◌^◌, ◌+◌, ℤ, List, pos, negsuc, ◌*ℤ◌, ◌-ℤ◌, ◌≤ℤ◌, false};
 ghost use Rattle.adpcm_nums.specs.Sample.{IsSample};
-ghost use Rattle.window_floor.specs.Numbers.{row_of};
-ghost use Rattle.block_bounds.specs.Covers.{Covers, IsKnownRow};
+ghost use Rattle.window_floor.specs.Numbers.{StandFor, windows_of};
+ghost use Rattle.block_bounds.specs.Covers.{Covers, IsKnownRow, IsOverRow, IsUnderRow};
 
-use crate::products::{end_at, error, rho};
+use crate::products::{end_at, error, rho, scaled};
+use crate::reach::{lower_reach, upper_reach};
 use row_bound::{Layer, Row};
-use window_floor::Window;
+use window_floor::{BlockWindows, Window};
+
+/// More than what a row makes of any two errors before.
+const FAR: i64 = 1 << 26;
 
 /// What a filter ties the error of a place to, with the ends of its interval for the sample 0.
 fn base_row(w: Window, low: i64, high: i64, weight: u64) -> Row
@@ -35,54 +39,90 @@ fn base_row(w: Window, low: i64, high: i64, weight: u64) -> Row
     }
 }
 
-/// The row of an output that clamping leaves: its error is known.
-fn known_row(scale: i64, y: i32, x: i32, weight: u64) -> Row
+/// An end of a base row's interval, on top of any sample, less the error of what the filter must predict at least to be
+/// clamped: an end of what the row then says of the errors before.
+fn past(w: Window, end: i64, reach: i32, x: i32) -> i64
+    requires low { negsuc (2 ^ 24) ≤ℤ end }
+    requires high { end ≤ℤ pos (2 ^ 24) }
+    requires reach { IsSample reach }
+    requires x { IsSample x }
+    ensures value { result ≡ end -ℤ w.d *ℤ (w.scale *ℤ reach -ℤ x) }
+    ensures low { negsuc (2 ^ 26) ≤ℤ result }
+    ensures high { result ≤ℤ pos (2 ^ 26) }
+{
+    end - scaled(w.d, error(w.scale, reach, x))
+}
+
+/// The row of an output that clamping leaves: its error is known, and between `low` and `high` is what the base row's factors
+/// make of the errors before.
+fn known_row(scale: i64, y: i32, x: i32, base: Row, low: i64, high: i64) -> Row
     requires scale { (scale ≡ pos 1) ⊎ (scale ≡ pos 2) }
     requires y { IsSample y }
     requires x { IsSample x }
-    requires weight_low { 1 ≤ weight }
-    requires weight_high { weight ≤ 2 }
-    ensures known { IsKnownRow scale y x result }
-    ensures weight { result.weight ≡ weight }
+    requires low_small { negsuc (2 ^ 26) ≤ℤ low }
+    requires low_great { low ≤ℤ pos (2 ^ 26) }
+    requires high_small { negsuc (2 ^ 26) ≤ℤ high }
+    requires high_great { high ≤ℤ pos (2 ^ 26) }
+    ensures known { IsKnownRow scale y x base result }
+    ensures low { result.low ≡ low }
+    ensures high { result.high ≡ high }
+    ensures weight { result.weight ≡ base.weight }
 {
     Row {
         d: 0,
-        a: 0,
-        b: 0,
-        low: 0,
-        high: 0,
-        weight,
+        a: base.a,
+        b: base.b,
+        low,
+        high,
+        weight: base.weight,
         known: true,
         out: error(scale, y, x),
     }
 }
 
+/// The row of the output that clamping leaves at the upper end.
+fn over_row(b: BlockWindows, x: i32, base: Row) -> Row
+    requires x { IsSample x }
+    requires d { base.d ≡ b.row.d }
+    requires low { negsuc (2 ^ 24) ≤ℤ base.high }
+    requires high { base.high ≤ℤ pos (2 ^ 24) }
+    ensures over { (samples : List ℤ) → StandFor b samples → IsOverRow (windows_of b samples) x base result }
+    ensures weight { result.weight ≡ base.weight }
+{
+    let high = past(b.row, base.high, upper_reach(b.levels), x);
+    known_row(b.row.scale, b.ends[0], x, base, -FAR, high)
+}
+
+/// The row of the output that clamping leaves at the lower end.
+fn under_row(b: BlockWindows, x: i32, base: Row) -> Row
+    requires x { IsSample x }
+    requires d { base.d ≡ b.row.d }
+    requires low { negsuc (2 ^ 24) ≤ℤ base.low }
+    requires high { base.low ≤ℤ pos (2 ^ 24) }
+    ensures under { (samples : List ℤ) → StandFor b samples → IsUnderRow (windows_of b samples) x base result }
+    ensures weight { result.weight ≡ base.weight }
+{
+    let low = past(b.row, base.low, lower_reach(b.levels), x);
+    known_row(b.row.scale, b.ends[1], x, base, low, FAR)
+}
+
 /// The layer of a place, from the targets of the two places before and of its own.
-pub(crate) fn layer_at(
-    w: Window,
-    first: i32,
-    second: i32,
-    r: i32,
-    o: i32,
-    x: i32,
-    weight: u64,
-) -> Layer
-    requires first { IsSample first }
-    requires second { IsSample second }
+pub(crate) fn layer_at(b: BlockWindows, r: i32, o: i32, x: i32, weight: u64) -> Layer
     requires r { IsSample r }
     requires o { IsSample o }
     requires x { IsSample x }
     requires weight_low { 1 ≤ weight }
     requires weight_high { weight ≤ 2 }
-    ensures { Covers (row_of w) first second r o x weight result }
+    ensures { (samples : List ℤ) → StandFor b samples → Covers (windows_of b samples) r o x weight result }
 {
+    let w = b.row;
     let rho = rho(w, r, o, x);
     let low = end_at(w.scale, w.bias - w.errs, rho);
     let high = end_at(w.scale, w.bias, rho);
     let base = base_row(w, low, high, weight);
     Layer {
         base,
-        first: known_row(w.scale, first, x, weight),
-        second: known_row(w.scale, second, x, weight),
+        first: over_row(b, x, base),
+        second: under_row(b, x, base),
     }
 }

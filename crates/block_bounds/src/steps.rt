@@ -9,7 +9,7 @@ use adpcm_nums::multiple;
 use window_floor::{BlockWindows, Quantizer, Window};
 
 /// `step * n`, a level.
-fn level_of(step: i64, n: i64) -> i64
+pub(crate) fn level_of(step: i64, n: i64) -> i64
     requires step_low { pos 1 ≤ℤ step }
     requires step_high { step ≤ℤ pos 4096 }
     requires n_low { negsuc 7 ≤ℤ n }

@@ -1,9 +1,8 @@
 -- The layers of a search are in the ranges and the order of a certificate.
 use Rattle.std.proofs.Common.{◌≡◌, ℕ, suc, ◌+◌, ◌*◌, ◌/◌, ◌%◌, ◌^◌, ◌<◌, ◌≤◌, ◌⊎◌, inl, inr, ℤ, pos, negsuc, List, [], ◌∷◌, ◌++◌, length, arith, refl, ap, sym, subst, true, false, nat_eq}
-use Rattle.std.specs.Prelude.{Vec, ◌≤ℤ◌, ◌<ℤ◌, nat_lt}
+use Rattle.std.specs.Prelude.{◌≤ℤ◌, ◌<ℤ◌, nat_lt}
 use Rattle.std.specs.Bool.{⊤}
 use Rattle.std.specs.List.{Contains}
-use Rattle.std.specs.declared.alloc.Global.{Global}
 use Rattle.std.proofs.Math.Nat.{mod-lt, mul-le-mul_right}
 use Rattle.std.proofs.lemmas.Int.{ints}
 use Rattle.std.proofs.lemmas.Nat.{div-add-mod'}
@@ -242,15 +241,15 @@ shift i j = omega arith
 pub none-more : (i : ℕ) → i + 0 ≡ i
 none-more i = omega arith
 
-pub keyed-filed : (limits : Limits) (n i : ℕ) (xs : List (Vec Node Global)) → 0 < n → ((j : ℕ) → j < length xs → AreFileable limits ((i + j) / n) ((i + j) % n) (nodes_at xs j)) → ((j : ℕ) → length (nodes_at xs j) < 2 ^ 32)
+pub keyed-filed : (limits : Limits) (n i : ℕ) (xs : List (List Node)) → 0 < n → ((j : ℕ) → j < length xs → AreFileable limits ((i + j) / n) ((i + j) % n) (nodes_at xs j)) → ((j : ℕ) → length (nodes_at xs j) < 2 ^ 32)
     → IsFiledFrom limits n i (keyed n i xs)
 keyed-filed limits n i [] some f few = record { sorted = tt; fit = tt; from = tt }
 keyed-filed limits n i (x ∷ xs) some f few =
-    let f0 : AreFileable limits (i / n) (i % n) x.items = subst (λ (z : ℕ). AreFileable limits (z / n) (z % n) x.items) (none-more i) (f 0 (omega arith)) in
-    let g = cut-good limits (i / n) (i % n) x.items f0 in
+    let f0 : AreFileable limits (i / n) (i % n) x = subst (λ (z : ℕ). AreFileable limits (z / n) (z % n) x) (none-more i) (f 0 (omega arith)) in
+    let g = cut-good limits (i / n) (i % n) x f0 in
     let ih = keyed-filed limits n (suc i) xs some (λ j h. subst (λ (z : ℕ). AreFileable limits (z / n) (z % n) (nodes_at xs j)) (shift i j) (f (suc j) (omega arith))) (λ j. few (suc j)) in
     record {
-      sorted = sorted-append n i (length x.items) (cut (i / n) (i % n) x.items) (keyed n (suc i) xs) g.here g.sorted ih.from ih.sorted;
-      fit = fit-append limits (cut (i / n) (i % n) x.items) (keyed n (suc i) xs) (g.fit (few 0)) ih.fit;
-      from = from-append n i (cut (i / n) (i % n) x.items) (keyed n (suc i) xs) (here-from n i (length x.items) (cut (i / n) (i % n) x.items) some g.here) (from-less n i (suc i) (keyed n (suc i) xs) (omega arith) ih.from);
+      sorted = sorted-append n i (length x) (cut (i / n) (i % n) x) (keyed n (suc i) xs) g.here g.sorted ih.from ih.sorted;
+      fit = fit-append limits (cut (i / n) (i % n) x) (keyed n (suc i) xs) (g.fit (few 0)) ih.fit;
+      from = from-append n i (cut (i / n) (i % n) x) (keyed n (suc i) xs) (here-from n i (length x) (cut (i / n) (i % n) x) some g.here) (from-less n i (suc i) (keyed n (suc i) xs) (omega arith) ih.from);
     }

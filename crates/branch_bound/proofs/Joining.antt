@@ -1,12 +1,12 @@
 -- Cells put into layers one after another.
 use Rattle.std.proofs.Common.{◌≡◌, ◌≢◌, ℕ, zero, suc, ◌+◌, ◌/◌, ◌%◌, ◌<◌, ◌≤◌, inl, inr, List, [], ◌∷◌, ◌++◌, length, get_or, drop, arith, refl, ap, sym, ◌∙◌, nat_eq, add-one, drop-cons}
-use Rattle.std.specs.Prelude.{Vec}
-use Rattle.std.specs.declared.alloc.Global.{Global}
 use Rattle.std.proofs.lemmas.List.{append_assoc, append-nil}
 use Rattle.std.proofs.lemmas.Bool.{cases_Bool, cond-true, cond-false, eq-eqb, ne_eqb}
 use Rattle.box_layers.specs.declared.cell_value.CellValue.{CellValue}
 use Rattle.bound_cert.specs.Content.{Layer}
+use Rattle.open_cells.specs.Counts.{nodes_at}
 use Rattle.open_cells.specs.declared.node.Node.{Node}
+use Rattle.open_cells.proofs.Built.{nodes-get}
 use Rattle.branch_bound.specs.Keyed.{key_at, cell_of_node, joined, cut, keyed}
 
 layer : ℕ → ℕ → ℕ → List CellValue → Layer
@@ -96,21 +96,21 @@ none-put b p [] old h = sym (append-nil old)
 none-put b p (x ∷ xs) old h = absurd (omega arith)
 
 -- one sample after another
-pub keyed-more : (n : ℕ) (layers : List (Vec Node Global)) (out out' : List Layer) (i : ℕ) (d : Vec Node Global) (nodes : List Node) → i < length layers → keyed n 0 layers ≡ out ++ keyed n i (drop i layers) → nodes ≡ (get_or layers i d).items
+pub keyed-more : (n : ℕ) (layers : List (List Node)) (out out' : List Layer) (i : ℕ) (nodes : List Node) → i < length layers → keyed n 0 layers ≡ out ++ keyed n i (drop i layers) → nodes ≡ nodes_at layers i
     → out' ≡ out ++ cut (i / n) (i % n) nodes → keyed n 0 layers ≡ out' ++ keyed n (i + 1) (drop (i + 1) layers)
-keyed-more n layers out out' i d nodes h t ne oe =
-    let c = cut (i / n) (i % n) (get_or layers i d).items in
+keyed-more n layers out out' i nodes h t ne oe =
+    let c = cut (i / n) (i % n) (nodes_at layers i) in
     let rest = keyed n (i + 1) (drop (i + 1) layers) in
-    let e : drop i layers ≡ get_or layers i d ∷ drop (i + 1) layers = drop-cons layers i d h ∙ ap (λ z. get_or layers i d ∷ drop z layers) (sym (add-one i)) in
+    let e : drop i layers ≡ nodes_at layers i ∷ drop (i + 1) layers = drop-cons layers i [] h ∙ (ap (λ z. get_or layers i [] ∷ drop z layers) (sym (add-one i)) ∙ ap (λ (z : List Node). z ∷ drop (i + 1) layers) (nodes-get layers i [] h)) in
     let s : keyed n (suc i) (drop (i + 1) layers) ≡ rest = ap (λ z. keyed n z (drop (i + 1) layers)) (sym (add-one i)) in
     let o : out ++ c ≡ out' = sym (oe ∙ ap (λ z. out ++ cut (i / n) (i % n) z) ne) in
-    t ∙ (ap (λ (z : List (Vec Node Global)). out ++ keyed n i z) e ∙ (ap (λ (z : List Layer). out ++ (c ++ z)) s ∙ (sym (append_assoc out c rest) ∙ ap (λ (z : List Layer). z ++ rest) o)))
+    t ∙ (ap (λ (z : List (List Node)). out ++ keyed n i z) e ∙ (ap (λ (z : List Layer). out ++ (c ++ z)) s ∙ (sym (append_assoc out c rest) ∙ ap (λ (z : List Layer). z ++ rest) o)))
 
-drop-all : (layers : List (Vec Node Global)) (k : ℕ) → length layers ≤ k → drop k layers ≡ []
+drop-all : (layers : List (List Node)) (k : ℕ) → length layers ≤ k → drop k layers ≡ []
 drop-all [] zero h = refl
 drop-all [] (suc k) h = refl
 drop-all (x ∷ xs) zero h = absurd (omega arith)
 drop-all (x ∷ xs) (suc k) h = drop-all xs k (omega arith)
 
-pub keyed-ends : (n : ℕ) (layers : List (Vec Node Global)) (out : List Layer) (i : ℕ) → length layers ≤ i → keyed n 0 layers ≡ out ++ keyed n i (drop i layers) → out ≡ keyed n 0 layers
-keyed-ends n layers out i h t = sym (t ∙ (ap (λ (z : List (Vec Node Global)). out ++ keyed n i z) (drop-all layers i h) ∙ append-nil out))
+pub keyed-ends : (n : ℕ) (layers : List (List Node)) (out : List Layer) (i : ℕ) → length layers ≤ i → keyed n 0 layers ≡ out ++ keyed n i (drop i layers) → out ≡ keyed n 0 layers
+keyed-ends n layers out i h t = sym (t ∙ (ap (λ (z : List (List Node)). out ++ keyed n i z) (drop-all layers i h) ∙ append-nil out))

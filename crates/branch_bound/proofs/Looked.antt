@@ -1,7 +1,5 @@
 -- The layers of a search list what the search lists.
 use Rattle.std.proofs.Common.{◌≡◌, ◌≢◌, ℕ, zero, suc, ◌+◌, ◌*◌, ◌^◌, ◌/◌, ◌%◌, ◌<◌, inl, inr, List, [], ◌∷◌, ◌++◌, length, arith, refl, ap, sym, ◌∙◌, subst, true, false, cond, nat_eq, Option, Some, None}
-use Rattle.std.specs.Prelude.{Vec}
-use Rattle.std.specs.declared.alloc.Global.{Global}
 use Rattle.std.proofs.lemmas.Nat.{div-add-mod'}
 use Rattle.std.proofs.lemmas.Bool.{cases_Bool, cond-true, cond-false, eqb-true, eq-eqb, false_from_ne_true}
 use Rattle.std.proofs.lemmas.Bool.Decides.{nat_tests}
@@ -104,21 +102,21 @@ skipped b p count k (x ∷ xs) ys h never = cond-false (key_same x.key k) x.cell
 same-sample : (n i k : ℕ) → i / n ≡ k / n → i % n ≡ k % n → i ≡ k
 same-sample n i k d r = let e : i / n * n ≡ k / n * n = ap (λ z. z * n) d in omega (arith, div-add-mod' i n, div-add-mod' k n)
 
-pub keyed-look : (limits : Limits) (n i : ℕ) (xs : List (Vec Node Global)) → 0 < n → ((j : ℕ) → j < length xs → AreFileable limits ((i + j) / n) ((i + j) % n) (nodes_at xs j)) → ((j : ℕ) → length (nodes_at xs j) < 2 ^ 32)
+pub keyed-look : (limits : Limits) (n i : ℕ) (xs : List (List Node)) → 0 < n → ((j : ℕ) → j < length xs → AreFileable limits ((i + j) / n) ((i + j) % n) (nodes_at xs j)) → ((j : ℕ) → length (nodes_at xs j) < 2 ^ 32)
     → (j l : ℕ) (c : Cell) → value_of (cells_for (keyed n i xs) (key_at ((i + j) / n) ((i + j) % n) l)) c ≡ listed_in (nodes_at xs j) l c
 keyed-look limits n i [] some f few j l c = refl
 keyed-look limits n i (x ∷ xs) some f few zero l c =
-    let f0 : AreFileable limits (i / n) (i % n) x.items = subst (λ (z : ℕ). AreFileable limits (z / n) (z % n) x.items) (none-more i) (f 0 (omega arith)) in
+    let f0 : AreFileable limits (i / n) (i % n) x = subst (λ (z : ℕ). AreFileable limits (z / n) (z % n) x) (none-more i) (f 0 (omega arith)) in
     let rest = keyed-filed limits n (suc i) xs some (λ j h. subst (λ (z : ℕ). AreFileable limits (z / n) (z % n) (nodes_at xs j)) (shift i j) (f (suc j) (omega arith))) (λ j. few (suc j)) in
     let k = key_at (i / n) (i % n) l in
     let none = below-none k (keyed n (suc i) xs) (from-below n i k (keyed n (suc i) xs) (div-add-mod' i n) rest.from) in
     ap (λ (z : ℕ). value_of (cells_for (keyed n i (x ∷ xs)) (key_at (z / n) (z % n) l)) c) (none-more i)
-    ∙ (ap (λ (z : List CellValue). value_of z c) (none-behind k (cut (i / n) (i % n) x.items) (keyed n (suc i) xs) none) ∙ cut-look limits (i / n) (i % n) x.items f0 l c)
+    ∙ (ap (λ (z : List CellValue). value_of z c) (none-behind k (cut (i / n) (i % n) x) (keyed n (suc i) xs) none) ∙ cut-look limits (i / n) (i % n) x f0 l c)
 keyed-look limits n i (x ∷ xs) some f few (suc j) l c =
-    let f0 : AreFileable limits (i / n) (i % n) x.items = subst (λ (z : ℕ). AreFileable limits (z / n) (z % n) x.items) (none-more i) (f 0 (omega arith)) in
-    let g = cut-good limits (i / n) (i % n) x.items f0 in
+    let f0 : AreFileable limits (i / n) (i % n) x = subst (λ (z : ℕ). AreFileable limits (z / n) (z % n) x) (none-more i) (f 0 (omega arith)) in
+    let g = cut-good limits (i / n) (i % n) x f0 in
     let k = key_at ((i + suc j) / n) ((i + suc j) % n) l in
     let never : (k.block ≡ i / n) × (k.place ≡ i % n) → ⊥ = λ q. (let s = same-sample n (i + suc j) i q.0 q.1 in omega arith) in
-    ap (λ (z : List CellValue). value_of z c) (skipped (i / n) (i % n) (length x.items) k (cut (i / n) (i % n) x.items) (keyed n (suc i) xs) g.here never)
+    ap (λ (z : List CellValue). value_of z c) (skipped (i / n) (i % n) (length x) k (cut (i / n) (i % n) x) (keyed n (suc i) xs) g.here never)
     ∙ (ap (λ (z : ℕ). value_of (cells_for (keyed n (suc i) xs) (key_at (z / n) (z % n) l)) c) (shift i j)
     ∙ keyed-look limits n (suc i) xs some (λ a h. subst (λ (z : ℕ). AreFileable limits (z / n) (z % n) (nodes_at xs a)) (shift i a) (f (suc a) (omega arith))) (λ a. few (suc a)) j l c)

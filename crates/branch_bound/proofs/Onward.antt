@@ -1,7 +1,6 @@
 -- One step along the least way, where every cell is one state.
 use Rattle.std.proofs.Common.{◌≡◌, ◌≢◌, ℕ, suc, ◌+◌, ◌-◌, ◌*◌, ◌%◌, ◌<◌, ◌≤◌, ◌⊎◌, inl, inr, ℤ, pos, List, [], ◌∷◌, ◌++◌, length, get_or, arith, refl, ap, sym, ◌∙◌, subst, min, IsTrue, true, false, Option, Some, nat_eq, length-append}
-use Rattle.std.specs.Prelude.{Vec, ◌+ℤ◌, ◌≤ℤ◌}
-use Rattle.std.specs.declared.alloc.Global.{Global}
+use Rattle.std.specs.Prelude.{◌+ℤ◌, ◌≤ℤ◌}
 use Rattle.std.specs.List.{Contains}
 use Rattle.std.proofs.Math.Nat.{mod-lt, mod-eq_of_lt}
 use Rattle.std.proofs.lemmas.Int.{ints}
@@ -130,7 +129,7 @@ step-is m targets blocks i lane head symbol at t takes = record {
 }
 
 -- what is listed after a step
-pub listed-after : (m : Rules) (targets : List ℤ) (blocks most total : ℕ) (layers : List (Vec Node Global)) (i old head symbol cost left left' : ℕ) (at : State) → IsGround m targets blocks most layers
+pub listed-after : (m : Rules) (targets : List ℤ) (blocks most total : ℕ) (layers : List (List Node)) (i old head symbol cost left left' : ℕ) (at : State) → IsGround m targets blocks most layers
     → IsTaken m targets blocks i head symbol at → IsListed m targets blocks most layers i old cost left at → may_take m first_only i (lane_at m old i) head ≡ true
     → by_symbol m targets (layer_certificate 0 blocks (nodes_at layers (suc i))) i (cell_of (grid m) 0 at) head symbol ≡ left → cost + left ≡ total → total < most → most ≤ top → suc i < blocks * m.decoder.samples
     → left' ≡ left - paid m targets i head symbol at → IsListed m targets blocks most layers (suc i) head (cost + paid m targets i head symbol at) left' (after m i head symbol at)
@@ -170,7 +169,7 @@ listed-after m targets blocks most total layers i old head symbol cost left left
     ]
 
 -- what is listed on the way is what is found
-pub found-is : (m : Rules) (targets : List ℤ) (blocks most total : ℕ) (layers : List (Vec Node Global)) (i head cost left : ℕ) (at : State) → IsGround m targets blocks most layers → IsListed m targets blocks most layers i head cost left at
+pub found-is : (m : Rules) (targets : List ℤ) (blocks most total : ℕ) (layers : List (List Node)) (i head cost left : ℕ) (at : State) → IsGround m targets blocks most layers → IsListed m targets blocks most layers i head cost left at
     → cost + left ≡ total → total < most → found m targets (layer_certificate 0 blocks (nodes_at layers (suc i))) i (lane_at m head i) (cell_of (grid m) 0 at) ≡ left
 found-is m targets blocks most total layers i head cost left at g l ce small =
     let w : min most (found m targets (layers_certificate 0 blocks layers) i (lane_at m head i) (cell_of (grid m) 0 at)) ≤ left = g.searched.worth i (lane_at m head i) (cell_of (grid m) 0 at) left l.listed in
@@ -181,7 +180,7 @@ below-or : (j i : ℕ) → j < suc i → (j < i) ⊎ (j ≡ i)
 below-or j i h = grind arith
 
 -- one sample more
-pub walk-more : (m : Rules) (targets : List ℤ) (blocks most total : ℕ) (layers : List (Vec Node Global)) (heads heads' symbols : List ℕ) (at : State) (old head symbol left left' i : ℕ) → IsGround m targets blocks most layers
+pub walk-more : (m : Rules) (targets : List ℤ) (blocks most total : ℕ) (layers : List (List Node)) (heads heads' symbols : List ℕ) (at : State) (old head symbol left left' i : ℕ) → IsGround m targets blocks most layers
     → IsWalk m targets blocks most total layers heads symbols at old left i → IsTaken m targets blocks i head symbol at → HeadsNow m heads heads' i head → may_take m first_only i (lane_at m old i) head ≡ true
     → by_symbol m targets (layer_certificate 0 blocks (nodes_at layers (suc i))) i (cell_of (grid m) 0 at) head symbol ≡ left → total < most → most ≤ top → i < blocks * m.decoder.samples
     → left' ≡ left - paid m targets i head symbol at → IsWalk m targets blocks most total layers heads' (symbols ++ symbol ∷ []) (after m i head symbol at) head left' (suc i)
@@ -220,7 +219,7 @@ walk-more m targets blocks most total layers heads heads' symbols at old head sy
           (listed-after m targets blocks most total layers i old head symbol (sum_from m.decoder l targets 0 i) left left' at g t (w.here within) takes e si small fits h le);
     }
 
-pub walk-legal : (m : Rules) (targets : List ℤ) (blocks most total : ℕ) (layers : List (Vec Node Global)) (heads symbols : List ℕ) (at : State) (head left i : ℕ) → HasLaws m → IsWalk m targets blocks most total layers heads symbols at head left i
+pub walk-legal : (m : Rules) (targets : List ℤ) (blocks most total : ℕ) (layers : List (List Node)) (heads symbols : List ℕ) (at : State) (head left i : ℕ) → HasLaws m → IsWalk m targets blocks most total layers heads symbols at head left i
     → i ≡ blocks * m.decoder.samples → begun m i ≡ blocks → IsLegal m.decoder blocks first_only (list_of heads symbols) × (total ≡ sum_of m.decoder (list_of heads symbols) targets blocks)
 walk-legal m targets blocks most total layers heads symbols at head left i laws w e b =
     let hc = w.head_count in let sc = w.symbol_count in let z = w.ends e in let si = w.sum_is in (
@@ -236,7 +235,7 @@ walk-legal m targets blocks most total layers heads symbols at head left i laws 
       (let q = ap (sum_from m.decoder (list_of heads symbols) targets 0) e in omega arith),
     )
 
-pub walk-starts : (m : Rules) (targets : List ℤ) (blocks most total : ℕ) (layers : List (Vec Node Global)) (heads symbols : List ℕ) (head left : ℕ) → HasLaws m → IsGround m targets blocks most layers → heads ≡ [] → symbols ≡ [] → left ≡ total
+pub walk-starts : (m : Rules) (targets : List ℤ) (blocks most total : ℕ) (layers : List (List Node)) (heads symbols : List ℕ) (head left : ℕ) → HasLaws m → IsGround m targets blocks most layers → heads ≡ [] → symbols ≡ [] → left ≡ total
     → 0 < blocks * m.decoder.samples → listed_in (nodes_at layers 0) 65535 (cell_of (grid m) 0 start) ≡ Some total → IsWalk m targets blocks most total layers heads symbols start head left 0
 walk-starts m targets blocks most total layers heads symbols head left laws g he se le some h =
     subst (λ (z : List ℕ). IsWalk m targets blocks most total layers z symbols start head left 0) (sym he) (subst (λ (z : List ℕ). IsWalk m targets blocks most total layers [] z start head left 0) (sym se)
@@ -262,7 +261,7 @@ walk-starts m targets blocks most total layers heads symbols head left laws g he
           });
     })))
 
-pub found-at : (m : Rules) (targets : List ℤ) (blocks most total : ℕ) (layers : List (Vec Node Global)) (heads symbols : List ℕ) (i head left : ℕ) (at : State) (next : List Node) (cell : Cell) → IsGround m targets blocks most layers
+pub found-at : (m : Rules) (targets : List ℤ) (blocks most total : ℕ) (layers : List (List Node)) (heads symbols : List ℕ) (i head left : ℕ) (at : State) (next : List Node) (cell : Cell) → IsGround m targets blocks most layers
     → IsWalk m targets blocks most total layers heads symbols at head left i → i < blocks * m.decoder.samples → total < most → next ≡ nodes_at layers (suc i) → cell ≡ cell_of (grid m) 0 at
     → found m targets (layer_certificate 0 blocks next) i (lane_at m head i) cell ≡ left
 found-at m targets blocks most total layers heads symbols i head left at next cell g w h small ne ce =
@@ -270,7 +269,7 @@ found-at m targets blocks most total layers heads symbols i head left at next ce
     ∙ (ap (found m targets (layer_certificate 0 blocks (nodes_at layers (suc i))) i (lane_at m head i)) ce
     ∙ found-is m targets blocks most total layers i head (sum_from m.decoder (list_of heads symbols) targets 0 i) left at g (w.here h) w.sum_is small)
 
-pub walk-now : (m : Rules) (targets : List ℤ) (blocks most total : ℕ) (layers : List (Vec Node Global)) (heads heads' symbols symbols' : List ℕ) (at at' : State) (old head symbol left left' i place cost n' : ℕ) (target : ℤ) (next : List Node) (cell : Cell)
+pub walk-now : (m : Rules) (targets : List ℤ) (blocks most total : ℕ) (layers : List (List Node)) (heads heads' symbols symbols' : List ℕ) (at at' : State) (old head symbol left left' i place cost n' : ℕ) (target : ℤ) (next : List Node) (cell : Cell)
     → IsGround m targets blocks most layers → IsWalk m targets blocks most total layers heads symbols at old left i → IsTaken m targets blocks i head symbol at → HeadsNow m heads heads' i head → may_take m first_only i (lane_at m old i) head ≡ true
     → by_symbol m targets (layer_certificate 0 blocks next) i cell head symbol ≡ left → total < most → most ≤ top → i < blocks * m.decoder.samples
     → next ≡ nodes_at layers (suc i) → cell ≡ cell_of (grid m) 0 at → symbols' ≡ symbols ++ symbol ∷ [] → at' ≡ m.decoder.step head place symbol at → place ≡ i % m.decoder.samples → cost ≡ cost_of m.decoder at' target → target ≡ get_or targets i (pos 0) → left' ≡ left - cost → n' ≡ suc i
@@ -285,7 +284,7 @@ walk-now m targets blocks most total layers heads heads' symbols symbols' at at'
     (subst (λ (z : State). IsWalk m targets blocks most total layers heads' symbols' z head left' (suc i)) (sym state)
     (subst (λ (z : List ℕ). IsWalk m targets blocks most total layers heads' z (after m i head symbol at) head left' (suc i)) (sym se) r))
 
-pub walk-at : (m : Rules) (targets : List ℤ) (blocks most total : ℕ) (layers : List (Vec Node Global)) (heads symbols : List ℕ) (at : State) (head left i j : ℕ) → i ≡ j → IsWalk m targets blocks most total layers heads symbols at head left i
+pub walk-at : (m : Rules) (targets : List ℤ) (blocks most total : ℕ) (layers : List (List Node)) (heads symbols : List ℕ) (at : State) (head left i j : ℕ) → i ≡ j → IsWalk m targets blocks most total layers heads symbols at head left i
     → IsWalk m targets blocks most total layers heads symbols at head left j
 walk-at m targets blocks most total layers heads symbols at head left i j e w = subst (λ (z : ℕ). IsWalk m targets blocks most total layers heads symbols at head left z) e w
 
@@ -309,9 +308,9 @@ choice-of m blocks targets heads symbols total c legal sum he se te =
     }
 
 -- the layers of a certificate of level 0
-pub ground-of : (m : Rules) (targets : List ℤ) (blocks most share : ℕ) (c : LevelCert) → IsShown m targets blocks most share c → c.level ≡ 0 → IsGround m targets blocks most c.layers.items
+pub ground-of : (m : Rules) (targets : List ℤ) (blocks most share : ℕ) (c : LevelCert) → IsShown m targets blocks most share c → c.level ≡ 0 → IsGround m targets blocks most c.layers
 ground-of m targets blocks most share c s le =
-    let same : level_certificate c ≡ layers_certificate 0 blocks c.layers.items = ap (λ z. layers_certificate z c.blocks c.layers.items) le ∙ ap (λ z. layers_certificate 0 z c.layers.items) s.blocks_are in
+    let same : level_certificate c ≡ layers_certificate 0 blocks c.layers = ap (λ z. layers_certificate z c.blocks c.layers) le ∙ ap (λ z. layers_certificate 0 z c.layers) s.blocks_are in
     record {
       rising = s.rising;
       searched = subst (λ (z : Certificate). IsSearched m targets most z) same (s.searched (λ e. omega arith));

@@ -1,8 +1,7 @@
 -- What a search shows can stand in a certificate, and says there what it says.
 use Rattle.std.proofs.Common.{◌≡◌, ◌≢◌, ℕ, zero, suc, ◌+◌, ◌*◌, ◌/◌, ◌%◌, ◌^◌, ◌<◌, ◌≤◌, ◌⊎◌, inl, inr, ℤ, pos, negsuc, List, [], ◌∷◌, ◌++◌, length, arith, refl, ap, sym, ◌∙◌, subst, Bool, true, false, cond, nat_eq, Option, zero-add, length-append}
-use Rattle.std.specs.Prelude.{Vec, nat_lt, ◌≤ℤ◌, ◌&&◌}
+use Rattle.std.specs.Prelude.{nat_lt, ◌≤ℤ◌, ◌&&◌}
 use Rattle.box_layers.specs.declared.cell_value.CellValue.{CellValue}
-use Rattle.std.specs.declared.alloc.Global.{Global}
 use Rattle.std.proofs.Math.Nat.{mod-lt, mod-eq_of_lt}
 use Rattle.std.proofs.Math.Path.{fun_ext}
 use Rattle.std.proofs.lemmas.Int.{ints}
@@ -87,7 +86,7 @@ abbrev limits_for : Rules → ℕ → LevelCert → Limits
 limits_for m blocks c = limits_of m.kind m.decoder.samples blocks c.level
 
 fileable : (m : Rules) → HasLaws m → (targets : List ℤ) (blocks most share : ℕ) (c : LevelCert) → IsShown m targets blocks most share c → IsLevel m targets blocks most share c.level → most < 1152921504606846976
-    → (j : ℕ) → j < length c.layers.items → AreFileable (limits_for m blocks c) (j / m.decoder.samples) (j % m.decoder.samples) (nodes_at c.layers.items j)
+    → (j : ℕ) → j < length c.layers → AreFileable (limits_for m blocks c) (j / m.decoder.samples) (j % m.decoder.samples) (nodes_at c.layers j)
 fileable m laws targets blocks most share c s level small j within =
     let n = m.decoder.samples in
     let ne : c.level ≢ 255 = λ e. (let z = s.none_listed e in omega arith) in
@@ -98,7 +97,7 @@ fileable m laws targets blocks most share c s level small j within =
       each = λ x there. (
           let is = s.cells j x there in
           let sample = cell-small m c.level x.cell laws.boxed is in
-          let at = listed-some (nodes_at c.layers.items j) x.lane x.cell there.0 x there.1 (ap (λ (z : Node). z.lane) there.2) (ap (λ (z : Node). z.cell) there.2) in
+          let at = listed-some (nodes_at c.layers j) x.lane x.cell there.0 x there.1 (ap (λ (z : Node). z.lane) there.2) (ap (λ (z : Node). z.cell) there.2) in
           let o = (s.searched ne).only j x.lane x.cell at.0 at.1 in
           let lane = opens-lane m laws targets c.blocks c.level most j x.lane x.cell o.0 o.1 in
           let value = s.values j x there in
@@ -112,10 +111,10 @@ fileable m laws targets blocks most share c s level small j within =
 
 -- the certificate of the file's layers is that of the search's
 pub filed-same : (m : Rules) → HasLaws m → (targets : List ℤ) (blocks most share : ℕ) (c : LevelCert) → IsShown m targets blocks most share c → IsLevel m targets blocks most share c.level → most < 1152921504606846976 → share < 2 ^ 32
-    → certificate_of m (keyed m.decoder.samples 0 c.layers.items) c.level c.blocks ≡ level_certificate c
+    → certificate_of m (keyed m.decoder.samples 0 c.layers) c.level c.blocks ≡ level_certificate c
 filed-same m laws targets blocks most share c s level small few =
     let n = m.decoder.samples in
-    let layers = c.layers.items in
+    let layers = c.layers in
     let mk : (ℕ → ℕ → Cell → Option ℕ) → Certificate = λ f. record { level = c.level; blocks = c.blocks; listed = f } in
     let file : (j : ℕ) → j < length layers → AreFileable (limits_for m blocks c) ((0 + j) / n) ((0 + j) % n) (nodes_at layers j) = λ j h. subst (λ (z : ℕ). AreFileable (limits_for m blocks c) (z / n) (z % n) (nodes_at layers j)) (sym (zero-add j)) (fileable m laws targets blocks most share c s level small j h) in
     let some : (j : ℕ) → length (nodes_at layers j) < 2 ^ 32 = λ j. (let f = s.few_cells j in omega arith) in
@@ -149,14 +148,14 @@ total-append : (xs ys : List Layer) → cell_total (xs ++ ys) ≡ cell_total xs 
 total-append [] ys = omega arith
 total-append (x ∷ xs) ys = let i = total-append xs ys in omega arith
 
-count-first : (x : Vec Node Global) (xs : List (Vec Node Global)) (k : ℕ) → count_of (nodes_at (x ∷ xs)) (suc k) ≡ length x.items + count_of (nodes_at xs) k
+count-first : (x : List Node) (xs : List (List Node)) (k : ℕ) → count_of (nodes_at (x ∷ xs)) (suc k) ≡ length x + count_of (nodes_at xs) k
 count-first x xs zero = omega arith
 count-first x xs (suc k) = let i = count-first x xs k in omega arith
 
-keyed-total : (n i : ℕ) (xs : List (Vec Node Global)) → cell_total (keyed n i xs) ≡ count_of (nodes_at xs) (length xs)
+keyed-total : (n i : ℕ) (xs : List (List Node)) → cell_total (keyed n i xs) ≡ count_of (nodes_at xs) (length xs)
 keyed-total n i [] = refl
 keyed-total n i (x ∷ xs) =
-    let a = total-append (cut (i / n) (i % n) x.items) (keyed n (suc i) xs) in let b = cut-total (i / n) (i % n) x.items in let c = keyed-total n (suc i) xs in let d = count-first x xs (length xs) in omega arith
+    let a = total-append (cut (i / n) (i % n) x) (keyed n (suc i) xs) in let b = cut-total (i / n) (i % n) x in let c = keyed-total n (suc i) xs in let d = count-first x xs (length xs) in omega arith
 
 count-rises : (f : ℕ → List Node) (a n : ℕ) → a ≤ n → count_of f a ≤ count_of f n
 count-rises f a zero h = (let e : a ≡ 0 = omega arith in let q = ap (count_of f) e in omega arith)
@@ -167,10 +166,10 @@ count-rises f a (suc n) h =
     ]
 
 -- and at most the share
-pub total-few : (m : Rules) (targets : List ℤ) (blocks most share : ℕ) (c : LevelCert) → IsShown m targets blocks most share c → cell_total (keyed m.decoder.samples 0 c.layers.items) ≤ share
+pub total-few : (m : Rules) (targets : List ℤ) (blocks most share : ℕ) (c : LevelCert) → IsShown m targets blocks most share c → cell_total (keyed m.decoder.samples 0 c.layers) ≤ share
 total-few m targets blocks most share c s =
-    let t = keyed-total m.decoder.samples 0 c.layers.items in
-    let r = count-rises (nodes_at c.layers.items) (length c.layers.items) (blocks * m.decoder.samples) s.rows in
+    let t = keyed-total m.decoder.samples 0 c.layers in
+    let r = count-rises (nodes_at c.layers) (length c.layers) (blocks * m.decoder.samples) s.rows in
     let z = s.size in omega arith
 
 level-byte : (m : Rules) (targets : List ℤ) (blocks most share level : ℕ) → IsLevel m targets blocks most share level → is_level_byte level ≡ true
@@ -186,15 +185,15 @@ level-byte m targets blocks most share level l =
       ])
     ]
 
-empty-keyed : (n : ℕ) (xs : List (Vec Node Global)) → length xs ≡ 0 → length (keyed n 0 xs) ≡ 0
+empty-keyed : (n : ℕ) (xs : List (List Node)) → length xs ≡ 0 → length (keyed n 0 xs) ≡ 0
 empty-keyed n [] h = refl
 empty-keyed n (x ∷ xs) h = absurd (omega arith)
 
 pub writable : (m : Rules) → HasLaws m → (targets : List ℤ) (blocks most share : ℕ) (c : LevelCert) → IsShown m targets blocks most share c → IsLevel m targets blocks most share c.level → most < 1152921504606846976 → share < 2 ^ 32 → blocks < 65536 → c.bound < 2 ^ 64
-    → IsWritable m.kind m.decoder.samples (record { blocks = c.blocks; level = c.level; bound = c.bound; layers = keyed m.decoder.samples 0 c.layers.items })
+    → IsWritable m.kind m.decoder.samples (record { blocks = c.blocks; level = c.level; bound = c.bound; layers = keyed m.decoder.samples 0 c.layers })
 writable m laws targets blocks most share c s level small few blocks_few bound =
     let n = m.decoder.samples in
-    let layers = c.layers.items in
+    let layers = c.layers in
     let be = s.blocks_are in
     let file : (j : ℕ) → j < length layers → AreFileable (limits_for m blocks c) ((0 + j) / n) ((0 + j) % n) (nodes_at layers j) = λ j h. subst (λ (z : ℕ). AreFileable (limits_for m blocks c) (z / n) (z % n) (nodes_at layers j)) (sym (zero-add j)) (fileable m laws targets blocks most share c s level small j h) in
     let some : (j : ℕ) → length (nodes_at layers j) < 2 ^ 32 = λ j. (let f = s.few_cells j in omega arith) in

@@ -1,6 +1,5 @@
 -- Cells before each sample as the layers of a certificate, one for each lane.
-use Rattle.std.specs.Prelude.{ℕ, suc, ◌+◌, length, ◌/◌, ◌%◌, ◌==◌, if◌then◌else◌, List, [], ◌∷◌, ◌++◌, Vec}
-use Rattle.std.specs.declared.alloc.Global.{Global}
+use Rattle.std.specs.Prelude.{ℕ, suc, ◌+◌, length, ◌/◌, ◌%◌, ◌==◌, if◌then◌else◌, List, [], ◌∷◌, ◌++◌}
 use Rattle.box_layers.specs.declared.cell_value.CellValue.{CellValue}
 use Rattle.box_layers.specs.declared.key.Key.{Key}
 use Rattle.bound_cert.specs.Content.{Layer, Plain}
@@ -25,9 +24,9 @@ cut block place [] = []
 cut block place (x ∷ xs) = joined block place x.lane (cell_of_node x ∷ []) (cut block place xs)
 
 -- those before sample i and later ones
-abbrev pub keyed : ℕ → ℕ → List (Vec Node Global) → List Layer
+abbrev pub keyed : ℕ → ℕ → List (List Node) → List Layer
 keyed samples i [] = []
-keyed samples i (x ∷ xs) = cut (i / samples) (i % samples) x.items ++ keyed samples (suc i) xs
+keyed samples i (x ∷ xs) = cut (i / samples) (i % samples) x ++ keyed samples (suc i) xs
 
 -- how many cells layers have
 abbrev pub cell_total : List Layer → ℕ
@@ -36,4 +35,4 @@ cell_total (x ∷ xs) = length x.cells + cell_total xs
 
 -- what a search shows at a level, as it is stored
 abbrev pub stored_as : ℕ → LevelCert → Plain
-stored_as samples c = record { blocks = c.blocks; level = c.level; bound = c.bound; layers = keyed samples 0 c.layers.items }
+stored_as samples c = record { blocks = c.blocks; level = c.level; bound = c.bound; layers = keyed samples 0 c.layers }

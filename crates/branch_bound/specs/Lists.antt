@@ -12,7 +12,7 @@ use Rattle.branch_bound.specs.Worth.{layers_certificate}
 use Rattle.branch_bound.specs.declared.levels.LevelCert.{LevelCert}
 
 abbrev pub level_certificate : LevelCert → Certificate
-level_certificate c = layers_certificate c.level c.blocks c.layers.items
+level_certificate c = layers_certificate c.level c.blocks c.layers
 
 -- an accepted certificate with the bound that it shows
 pub record IsCert (m : Rules) (targets : List ℤ) (c : LevelCert) : Type 0 where
@@ -24,13 +24,13 @@ pub record IsShown (m : Rules) (targets : List ℤ) (blocks most share : ℕ) (c
   pub blocks_are : c.blocks ≡ blocks
   -- it is the natural one, unless it is of the floors alone
   pub searched : c.level ≢ 255 → IsSearched m targets most (level_certificate c)
-  pub none_listed : c.level ≡ 255 → length c.layers.items ≡ 0
+  pub none_listed : c.level ≡ 255 → length c.layers ≡ 0
   pub cert : IsCert m targets c
   -- it lists at most `share` cells
-  pub size : count_of (nodes_at c.layers.items) (blocks * m.decoder.samples) ≤ share
-  pub rows : length c.layers.items ≤ blocks * m.decoder.samples
-  pub few_cells : (i : ℕ) → length (nodes_at c.layers.items i) ≤ share
-  pub rising : (i : ℕ) → IsRising (nodes_at c.layers.items i)
-  pub cells : (i : ℕ) (x : Node) → Contains (nodes_at c.layers.items i) x → IsTrue (is_cell (grid m) c.level x.cell)
+  pub size : count_of (nodes_at c.layers) (blocks * m.decoder.samples) ≤ share
+  pub rows : length c.layers ≤ blocks * m.decoder.samples
+  pub few_cells : (i : ℕ) → length (nodes_at c.layers i) ≤ share
+  pub rising : (i : ℕ) → IsRising (nodes_at c.layers i)
+  pub cells : (i : ℕ) (x : Node) → Contains (nodes_at c.layers i) x → IsTrue (is_cell (grid m) c.level x.cell)
   -- and none of a value above that sum
-  pub values : (i : ℕ) (x : Node) → Contains (nodes_at c.layers.items i) x → x.cost ≤ most
+  pub values : (i : ℕ) (x : Node) → Contains (nodes_at c.layers i) x → x.cost ≤ most

@@ -1,6 +1,5 @@
 -- A least list, sample by sample.
-use Rattle.std.specs.Prelude.{◌≡◌, ℕ, zero, suc, ◌+◌, ◌*◌, ◌/◌, ◌%◌, ◌<◌, ◌≤◌, ℤ, List, length, get_or, Some, Vec, true}
-use Rattle.std.specs.declared.alloc.Global.{Global}
+use Rattle.std.specs.Prelude.{◌≡◌, ℕ, zero, suc, ◌+◌, ◌*◌, ◌/◌, ◌%◌, ◌<◌, ◌≤◌, ℤ, List, length, get_or, Some, true}
 use Rattle.open_cells.specs.Nodes.{listed_in, IsRising}
 use Rattle.open_cells.specs.declared.node.Node.{Node}
 use Rattle.open_cells.specs.Counts.{nodes_at}
@@ -24,14 +23,14 @@ abbrev pub list_of : List ℕ → List ℕ → Blocks
 list_of heads symbols = record { heads = heads; symbols = symbols }
 
 -- the state before sample i is reached by an open path that costs no more than the list so far, and `left` is listed for it
-pub record IsListed (m : Rules) (targets : List ℤ) (blocks most : ℕ) (layers : List (Vec Node Global)) (i head cost left : ℕ) (at : State) : Type 0 where
+pub record IsListed (m : Rules) (targets : List ℤ) (blocks most : ℕ) (layers : List (List Node)) (i head cost left : ℕ) (at : State) : Type 0 where
   pub listed : listed_in (nodes_at layers i) (lane_at m head i) (cell_of (grid m) 0 at) ≡ Some left
   pub path : ℕ
   pub opened : Opens m targets blocks 0 most i (lane_at m head i) (cell_of (grid m) 0 at) path
   pub cheap : path ≤ cost
 
 -- the first i samples of a list that comes to `total`
-pub record IsWalk (m : Rules) (targets : List ℤ) (blocks most total : ℕ) (layers : List (Vec Node Global)) (heads symbols : List ℕ) (at : State) (head left i : ℕ) : Type 0 where
+pub record IsWalk (m : Rules) (targets : List ℤ) (blocks most total : ℕ) (layers : List (List Node)) (heads symbols : List ℕ) (at : State) (head left i : ℕ) : Type 0 where
   pub state_is : at ≡ state_at m.decoder (list_of heads symbols) start i
   pub sum_is : sum_from m.decoder (list_of heads symbols) targets 0 i + left ≡ total
   pub symbol_count : length symbols ≡ i
@@ -44,7 +43,7 @@ pub record IsWalk (m : Rules) (targets : List ℤ) (blocks most total : ℕ) (la
   pub here : i < blocks * m.decoder.samples → IsListed m targets blocks most layers i head (sum_from m.decoder (list_of heads symbols) targets 0 i) left at
 
 -- the layers that a list is walked through
-pub record IsGround (m : Rules) (targets : List ℤ) (blocks most : ℕ) (layers : List (Vec Node Global)) : Type 0 where
+pub record IsGround (m : Rules) (targets : List ℤ) (blocks most : ℕ) (layers : List (List Node)) : Type 0 where
   pub rising : (i : ℕ) → IsRising (nodes_at layers i)
   pub searched : IsSearched m targets most (layers_certificate 0 blocks layers)
   pub accepted : IsAccepted m targets (layers_certificate 0 blocks layers)

@@ -1,6 +1,5 @@
 -- What listed cells are worth, layer by layer from the end.
-use Rattle.std.specs.Prelude.{◌≡◌, ℕ, zero, suc, ◌-◌, ◌*◌, ◌<◌, ℤ, List, [], length, Vec, min, map}
-use Rattle.std.specs.declared.alloc.Global.{Global}
+use Rattle.std.specs.Prelude.{◌≡◌, ℕ, zero, suc, ◌-◌, ◌*◌, ◌<◌, ℤ, List, [], length, min, map}
 use Rattle.open_cells.specs.declared.node.Node.{Node}
 use Rattle.open_cells.specs.Nodes.{listed_in, IsRising}
 use Rattle.open_cells.specs.declared.search.Search.{Search}
@@ -28,7 +27,7 @@ abbrev pub layer_certificate : ℕ → ℕ → List Node → Certificate
 layer_certificate level blocks next = record { level = level; blocks = blocks; listed = λ i. listed_in next }
 
 -- all layers as a certificate
-abbrev pub layers_certificate : ℕ → ℕ → List (Vec Node Global) → Certificate
+abbrev pub layers_certificate : ℕ → ℕ → List (List Node) → Certificate
 layers_certificate level blocks layers = record { level = level; blocks = blocks; listed = λ i. listed_in (nodes_at layers i) }
 
 -- the sample in work, with its block's tables
@@ -46,17 +45,17 @@ abbrev pub valued : Rules → List ℤ → ℕ → ℕ → ℕ → ℕ → List 
 valued m targets blocks level most i next x = record { lane = x.lane; cell = x.cell; cost = min most (found m targets (layer_certificate level blocks next) i x.lane x.cell) }
 
 -- each layer has the cells of a front, with what they are worth before the next layer
-pub record AreValued (m : Rules) (targets : List ℤ) (blocks level most : ℕ) (fronts layers : List (Vec Node Global)) : Type 0 where
+pub record AreValued (m : Rules) (targets : List ℤ) (blocks level most : ℕ) (fronts layers : List (List Node)) : Type 0 where
   pub size : length layers ≡ blocks * m.decoder.samples
   pub each : (i : ℕ) → i < blocks * m.decoder.samples → nodes_at layers i ≡ map (valued m targets blocks level most i (nodes_at layers (suc i))) (nodes_at fronts i)
 
 -- the layer before the k-th, none before the first
-abbrev pub prior : List (Vec Node Global) → ℕ → List Node
+abbrev pub prior : List (List Node) → ℕ → List Node
 prior layers zero = []
 prior layers (suc k) = nodes_at layers k
 
 -- the last k layers of n, the last first
-pub record AreBacked (m : Rules) (targets : List ℤ) (blocks level most : ℕ) (fronts layers : List (Vec Node Global)) (n k : ℕ) : Type 0 where
+pub record AreBacked (m : Rules) (targets : List ℤ) (blocks level most : ℕ) (fronts layers : List (List Node)) (n k : ℕ) : Type 0 where
   pub size : length layers ≡ k
   pub each : (j : ℕ) → j < k → nodes_at layers j ≡ map (valued m targets blocks level most (n - suc j) (prior layers j)) (nodes_at fronts (n - suc j))
   pub rising : (j : ℕ) → j < k → IsRising (nodes_at layers j)

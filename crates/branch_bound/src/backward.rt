@@ -1,4 +1,4 @@
-ghost use Rattle.std.specs.Prelude.{◌≡◌, ℕ, suc, ◌+◌, ◌-◌, ◌%◌, ◌*◌, ◌<◌, ◌≤◌, ◌^◌, IsTrue, IfOk, length, map, min, reverse};
+ghost use Rattle.std.specs.Prelude.{◌≡◌, ℕ, suc, ◌+◌, ◌-◌, ◌%◌, ◌*◌, ◌<◌, ◌≤◌, ◌^◌, IsTrue, IfOk, length, map, min};
 ghost use Rattle.block_steps.specs.Tables.{HoldLater, HoldRows, IsSpot};
 ghost use Rattle.bound_cert.specs.Filed.{IsFiled};
 ghost use Rattle.machine_core.specs.Cells.{is_level};
@@ -7,13 +7,14 @@ ghost use Rattle.open_cells.specs.Counts.{nodes_at};
 ghost use Rattle.open_cells.specs.Nodes.{IsRising};
 ghost use Rattle.open_cells.specs.Paths.{FitTargets};
 ghost use Rattle.open_cells.specs.Reach.{IsFront, IsSearch};
-ghost use Rattle.branch_bound.specs.Worth.{AreValued, IsHere, prior, valued};
+ghost use Rattle.branch_bound.specs.Worth.{AreValued, IsHere, valued};
 
 use crate::finding::worth_at;
 use adpcm_nums::NoMemory;
 use block_steps::{Spot, fill_rows, targets_in};
+use bumpalo::Bump;
 use machine_core::Machine;
-use open_cells::{Node, Search};
+use open_cells::{Node, SampleCells, Search};
 use std::alloc::Global;
 
 /// The cells of a front with what they are worth.
@@ -84,28 +85,10 @@ pub fn spot_at<M: Machine>(machine: &M, i: u32) -> Spot
     }
 }
 
-/// The last layer of a list, or none.
-fn prior_of(layers: &[Vec<Node>]) -> &[Node]
-    ensures { result.now ≡ prior layers.now (length layers.now) }
-{
-    let n = layers.len();
-    if n == 0 {
-        &[]
-    } else {
-        layers[n - 1].as_slice()
-    }
-}
-
-/// Layers in the other order.
-fn turn(layers: &mut Vec<Vec<Node>>)
-    ensures { layers.new.items ≡ reverse layers.old.items }
-{
-    layers.as_mut_slice().reverse();
-}
-
-/// All layers with what their cells are worth.
-pub fn all_values<M: Machine>(
+/// All layers with what their cells are worth, in an arena.
+pub fn all_values<'a, M: Machine>(
     alloc: Global,
+    arena: &'a Bump,
     machine: &M,
     targets: &[i32],
     rows: &mut [u64],
@@ -113,8 +96,8 @@ pub fn all_values<M: Machine>(
     blocks: u32,
     level: u32,
     most: u64,
-    fronts: &[Vec<Node>],
-) -> Result<Vec<Vec<Node>>, NoMemory>
+    fronts: &SampleCells<'_>,
+) -> Result<SampleCells<'a>, NoMemory>
     requires level { IsTrue (is_level level) }
     requires fit { FitTargets (M.rules machine.now) blocks targets.now }
     requires small { blocks * (M.rules machine.now).decoder.samples < 2 ^ 31 }
@@ -124,11 +107,12 @@ pub fn all_values<M: Machine>(
     requires rows { length rows.old ≡ (M.rules machine.now).decoder.heads * (M.rules machine.now).floor_len }
     requires size { length fronts.now ≡ blocks * (M.rules machine.now).decoder.samples }
     requires fronts { (i : ℕ) → i < blocks * (M.rules machine.now).decoder.samples → IsFront (M.rules machine.now) targets.now blocks level most i (nodes_at fronts.now i) }
-    ensures values { IfOk result (λ v. AreValued (M.rules machine.now) targets.now blocks level most fronts.now v.items) }
+    ensures values { IfOk result (λ v. AreValued (M.rules machine.now) targets.now blocks level most fronts.now v) }
     ensures rows { length rows.new ≡ (M.rules machine.now).decoder.heads * (M.rules machine.now).floor_len }
 {
     let end = blocks * machine.block_samples();
-    let mut values = Vec::new(alloc);
+    let mut values = SampleCells::new(alloc);
+    let mut next = Vec::new(alloc);
     let mut held = blocks;
     for k in 0..end {
         let at = spot_at(machine, end - 1 - k);
@@ -144,27 +128,20 @@ pub fn all_values<M: Machine>(
             most,
             room: 0,
         };
-        let front = fronts[at.index as usize].as_slice();
-        let layer = match value_layer(alloc, machine, &s, at, front, prior_of(values.as_slice())) {
+        let front = match fronts.row(alloc, at.index as usize) {
             Ok(v) => v,
-            Err(_) => return Err(NoMemory),
+            Err(e) => return Err(e),
         };
-        match values.push(layer) {
+        let layer = match value_layer(alloc, machine, &s, at, front.as_slice(), next.as_slice()) {
+            Ok(v) => v,
+            Err(e) => return Err(e),
+        };
+        match values.push(arena, layer.as_slice()) {
             Ok(_) => {}
-            Err(_) => return Err(NoMemory),
+            Err(e) => return Err(e),
         }
+        next = layer;
     }
-    turn(&mut values);
+    values.turn();
     Ok(values)
-}
-
-/// A layer, or none.
-pub fn layer_at(layers: &[Vec<Node>], i: u32) -> &[Node]
-    ensures { result.now ≡ nodes_at layers.now i }
-{
-    if (i as usize) < layers.len() {
-        layers[i as usize].as_slice()
-    } else {
-        &[]
-    }
 }

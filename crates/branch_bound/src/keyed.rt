@@ -5,7 +5,7 @@ use crate::levels::LevelCert;
 use adpcm_nums::NoMemory;
 use bound_cert::{LayerCells, SegmentCert};
 use box_layers::{CellValue, Key};
-use open_cells::Node;
+use open_cells::{Node, SampleCells};
 use std::alloc::Global;
 
 /// Adds a layer of cells.
@@ -59,7 +59,7 @@ fn put_layers(
 pub fn all_keyed(
     alloc: Global,
     samples: u32,
-    layers: &[Vec<Node>],
+    layers: &SampleCells<'_>,
 ) -> Result<Vec<LayerCells>, NoMemory>
     requires samples { 0 < samples }
     requires few { length layers.now < 2 ^ 32 }
@@ -69,7 +69,11 @@ pub fn all_keyed(
     for i in 0..layers.len() {
         let block = i as u32 / samples;
         let place = i as u32 % samples;
-        match put_layers(alloc, block, place, layers[i].as_slice(), &mut out) {
+        let row = match layers.row(alloc, i) {
+            Ok(v) => v,
+            Err(e) => return Err(e),
+        };
+        match put_layers(alloc, block, place, row.as_slice(), &mut out) {
             Ok(_) => {}
             Err(e) => return Err(e),
         }
@@ -78,12 +82,12 @@ pub fn all_keyed(
 }
 
 /// What a search shows at a level, as it is stored.
-pub fn stored(alloc: Global, samples: u32, cert: &LevelCert) -> Result<SegmentCert, NoMemory>
+pub fn stored(alloc: Global, samples: u32, cert: &LevelCert<'_>) -> Result<SegmentCert, NoMemory>
     requires samples { 0 < samples }
-    requires few { length cert.now.layers.items < 2 ^ 32 }
+    requires few { length cert.now.layers < 2 ^ 32 }
     ensures { IfOk result (λ p. p ≡ stored_as samples cert.now) }
 {
-    match all_keyed(alloc, samples, cert.layers.as_slice()) {
+    match all_keyed(alloc, samples, &cert.layers) {
         Ok(layers) => Ok(SegmentCert::new(cert.blocks, cert.level, cert.bound, layers)),
         Err(e) => Err(e),
     }

@@ -11,15 +11,16 @@ ghost use Rattle.open_cells.specs.Paths.{FitTargets};
 ghost use Rattle.branch_bound.specs.Lists.{IsShown};
 ghost use Rattle.branch_bound.specs.Searched.{IsLevel, IsSum};
 
-use crate::backward::{all_values, layer_at};
+use crate::backward::all_values;
 use adpcm_nums::NoMemory;
+use bumpalo::Bump;
 use machine_core::{Machine, State};
-use open_cells::{Halt, Node, all_layers, listed};
+use open_cells::{Halt, SampleCells, all_layers, listed};
 use std::alloc::Global;
 
 /// What a search shows at a level: the reached cells before each sample, each with a value that nothing from it on is below.
 #[derive(Drop)]
-pub struct LevelCert {
+pub struct LevelCert<'a> {
     /// Blocks of the segment.
     pub blocks: u32,
     /// The level of the cells, 255 for the floors alone.
@@ -27,7 +28,7 @@ pub struct LevelCert {
     /// The bound, in squared 16-bit steps.
     pub bound: u64,
     /// The cells before each sample, in the order of their lanes.
-    pub layers: Vec<Vec<Node>>,
+    pub layers: SampleCells<'a>,
 }
 
 /// The greater of a number and what is listed.
@@ -41,8 +42,9 @@ fn greater(floor: u64, listed: Option<u64>) -> u64
 }
 
 /// The certificate of a level, or word that more cells are reached than the share.
-fn at_level<M: Machine>(
+fn at_level<'a, M: Machine>(
     alloc: Global,
+    arena: &'a Bump,
     machine: &M,
     targets: &[i32],
     rows: &mut [u64],
@@ -51,7 +53,7 @@ fn at_level<M: Machine>(
     level: u32,
     most: u64,
     share: u32,
-) -> Result<LevelCert, Halt>
+) -> Result<LevelCert<'a>, Halt>
     requires level { IsTrue (is_level level) }
     requires blocks { 0 < blocks }
     requires fit { FitTargets (M.rules machine.now) blocks targets.now }
@@ -68,30 +70,23 @@ fn at_level<M: Machine>(
     ensures rows { length rows.new ≡ (M.rules machine.now).decoder.heads * (M.rules machine.now).floor_len }
 {
     let fronts = match all_layers(
-        alloc, machine, targets, rows, later, blocks, level, most, share,
+        alloc, arena, machine, targets, rows, later, blocks, level, most, share,
     ) {
         Ok(v) => v,
         Err(e) => return Err(e),
     };
     let layers = match all_values(
-        alloc,
-        machine,
-        targets,
-        rows,
-        later,
-        blocks,
-        level,
-        most,
-        fronts.as_slice(),
+        alloc, arena, machine, targets, rows, later, blocks, level, most, &fronts,
     ) {
         Ok(v) => v,
         Err(_) => return Err(Halt::NoMemory),
     };
     let start = machine.cell_of(level, State { a: 0, b: 0 });
-    let bound = greater(
-        later[0],
-        listed(layer_at(layers.as_slice(), 0), 65535, start),
-    );
+    let first = match layers.row(alloc, 0) {
+        Ok(v) => v,
+        Err(_) => return Err(Halt::NoMemory),
+    };
+    let bound = greater(later[0], listed(first.as_slice(), 65535, start));
     Ok(LevelCert {
         blocks,
         level,
@@ -101,8 +96,9 @@ fn at_level<M: Machine>(
 }
 
 /// The certificate of the first level that has no more cells than the share, or of the floors alone.
-pub fn search_levels<M: Machine>(
+pub fn search_levels<'a, M: Machine>(
     alloc: Global,
+    arena: &'a Bump,
     machine: &M,
     targets: &[i32],
     rows: &mut [u64],
@@ -110,7 +106,7 @@ pub fn search_levels<M: Machine>(
     blocks: u32,
     most: u64,
     share: u32,
-) -> Result<LevelCert, NoMemory>
+) -> Result<LevelCert<'a>, NoMemory>
     requires blocks { 0 < blocks }
     requires fit { FitTargets (M.rules machine.now) blocks targets.now }
     requires small { blocks * (M.rules machine.now).decoder.samples < 2 ^ 31 }
@@ -125,17 +121,23 @@ pub fn search_levels<M: Machine>(
     ensures rows { length rows.new ≡ (M.rules machine.now).decoder.heads * (M.rules machine.now).floor_len }
 {
     if blocks <= 64 {
-        match at_level(alloc, machine, targets, rows, later, blocks, 0, most, share) {
+        match at_level(
+            alloc, arena, machine, targets, rows, later, blocks, 0, most, share,
+        ) {
             Ok(c) => return Ok(c),
             Err(Halt::NoMemory) => return Err(NoMemory),
             Err(Halt::Many) => {}
         }
-        match at_level(alloc, machine, targets, rows, later, blocks, 4, most, share) {
+        match at_level(
+            alloc, arena, machine, targets, rows, later, blocks, 4, most, share,
+        ) {
             Ok(c) => return Ok(c),
             Err(Halt::NoMemory) => return Err(NoMemory),
             Err(Halt::Many) => {}
         }
-        match at_level(alloc, machine, targets, rows, later, blocks, 8, most, share) {
+        match at_level(
+            alloc, arena, machine, targets, rows, later, blocks, 8, most, share,
+        ) {
             Ok(c) => return Ok(c),
             Err(Halt::NoMemory) => return Err(NoMemory),
             Err(Halt::Many) => {}
@@ -145,6 +147,6 @@ pub fn search_levels<M: Machine>(
         blocks,
         level: 255,
         bound: later[0],
-        layers: Vec::new(alloc),
+        layers: SampleCells::new(alloc),
     })
 }

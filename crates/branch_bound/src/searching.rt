@@ -5,7 +5,6 @@ ghost use Rattle.open_cells.specs.Paths.{FitTargets};
 ghost use Rattle.branch_bound.specs.Lists.{IsShown};
 ghost use Rattle.branch_bound.specs.Searched.{IsChoice};
 
-use crate::backward::layer_at;
 use crate::levels::LevelCert;
 use crate::walking::walk;
 use adpcm_nums::NoMemory;
@@ -37,7 +36,7 @@ pub fn choose<M: Machine>(
     blocks: u32,
     best: Choice,
     share: u32,
-    cert: &LevelCert,
+    cert: &LevelCert<'_>,
 ) -> Result<Choice, NoMemory>
     requires blocks { 0 < blocks }
     requires fit { FitTargets (M.rules machine.now) blocks targets.now }
@@ -56,7 +55,11 @@ pub fn choose<M: Machine>(
         return Ok(best);
     }
     let start = machine.cell_of(0, State { a: 0, b: 0 });
-    match listed(layer_at(cert.layers.as_slice(), 0), 65535, start) {
+    let first = match cert.layers.row(alloc, 0) {
+        Ok(v) => v,
+        Err(e) => return Err(e),
+    };
+    match listed(first.as_slice(), 65535, start) {
         Some(total) => {
             if total < best.sum {
                 walk(
@@ -67,7 +70,7 @@ pub fn choose<M: Machine>(
                     later,
                     blocks,
                     best.sum,
-                    cert.layers.as_slice(),
+                    &cert.layers,
                     total,
                 )
             } else {

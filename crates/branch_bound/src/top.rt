@@ -16,6 +16,7 @@ use crate::searching::{choose, zeros};
 use adpcm_nums::NoMemory;
 use block_steps::fill_later;
 use bound_cert::SegmentCert;
+use bumpalo::Bump;
 use machine_core::{Choice, Machine};
 use std::alloc::Global;
 
@@ -75,8 +76,10 @@ fn search_segment<M: Machine>(
         Err(e) => return Err(e),
     };
     fill_later(machine, targets, blocks, later.as_mut_slice());
+    let arena = Bump::new(alloc);
     let cert = match search_levels(
         alloc,
+        &arena,
         machine,
         targets,
         rows.as_mut_slice(),

@@ -15,12 +15,12 @@ ghost use Rattle.branch_bound.specs.Searched.{IsChoice};
 ghost use Rattle.branch_bound.specs.Walks.{IsGround};
 ghost use Rattle.branch_bound.specs.Worth.{IsHere, layer_certificate};
 
-use crate::backward::{layer_at, ready_for};
+use crate::backward::ready_for;
 use crate::finding::{head_way, symbol_found};
 use adpcm_nums::{NoMemory, Words32};
 use block_steps::{Spot, next_spot, symbols_within, takes, target_at};
 use machine_core::{Cell, Choice, Machine, State};
-use open_cells::{Node, Search};
+use open_cells::{Node, SampleCells, Search};
 use std::alloc::Global;
 
 /// Whether the least way on from a cell under a head comes to a number.
@@ -142,7 +142,7 @@ pub fn walk<M: Machine>(
     later: &[u64],
     blocks: u32,
     most: u64,
-    layers: &[Vec<Node>],
+    layers: &SampleCells<'_>,
     total: u64,
 ) -> Result<Choice, NoMemory>
     requires blocks { 0 < blocks }
@@ -184,7 +184,11 @@ pub fn walk<M: Machine>(
             most,
             room: 0,
         };
-        let next = layer_at(layers, i + 1);
+        let row = match layers.row(alloc, (i + 1) as usize) {
+            Ok(v) => v,
+            Err(e) => return Err(e),
+        };
+        let next = row.as_slice();
         let cell = machine.cell_of(0, state);
         head = next_head(machine, &s, at, head, cell, next, left);
         if at.place == 0 {

@@ -1,17 +1,15 @@
 -- Layers one after another, and their count.
-use Rattle.std.proofs.Common.{◌≡◌, ◌≢◌, ℕ, zero, suc, ◌+◌, ◌-◌, ◌*◌, ◌%◌, ◌/◌, ◌<◌, ◌≤◌, ◌⊎◌, inl, inr, ℤ, pos, List, [], ◌∷◌, ◌++◌, length, get_or, arith, refl, ap, sym, ◌∙◌, subst, min, IsTrue, true, false, Bool, cond, length-append, length-take, length-drop, drop}
-use Rattle.std.specs.Prelude.{Vec, nat_lt, nat_eq, vec_len}
-use Rattle.std.specs.List.{Contains, slice_range}
-use Rattle.std.specs.declared.alloc.Global.{Global}
-use Rattle.std.proofs.Math.Nat.{mod-lt, mul-le-mul_right, mul-pos}
-use Rattle.std.proofs.lemmas.Bool.{cond-true, cond-false, cases_lt, lt-ltb, le-ltb, eq-eqb, ne_eqb}
+use Rattle.std.proofs.Common.{◌≡◌, ℕ, zero, suc, ◌+◌, ◌-◌, ◌*◌, ◌%◌, ◌/◌, ◌<◌, ◌≤◌, ◌⊎◌, inl, inr, ℤ, List, [], ◌∷◌, ◌++◌, length, get_or, arith, refl, ap, sym, ◌∙◌, subst, min, cond, length-append}
+use Rattle.std.specs.Prelude.{nat_lt, nat_eq}
+use Rattle.std.specs.List.{Contains}
+use Rattle.std.proofs.Math.Nat.{mul-pos}
+use Rattle.std.proofs.lemmas.Bool.{cond-true, cond-false, lt-ltb, le-ltb, eq-eqb, ne_eqb}
 use Rattle.open_cells.specs.declared.node.Node.{Node}
 use Rattle.open_cells.specs.Nodes.{IsRising}
 use Rattle.open_cells.proofs.Order.{rising-nil}
 use Rattle.open_cells.specs.Reach.{AllOpen, IsFront}
-use Rattle.open_cells.specs.Counts.{nodes_at, count_of, IsFew, IsMany, AreFronts, IsOverflow, IsBuilt}
+use Rattle.open_cells.specs.Counts.{nodes_at, count_of, IsMany, AreFronts, IsOverflow, IsBuilt}
 use Rattle.machine_core.specs.Rules.{IsMachine, Rules}
-use Rattle.open_cells.specs.Paths.{HasLaws}
 use Rattle.std.proofs.Math.Nat.{mod-eq_of_lt, div-eq_of_lt, sub-zero}
 use Rattle.std.specs.Prelude.{slice_index}
 use Rattle.block_steps.specs.Tables.{HoldLater}
@@ -24,19 +22,24 @@ use Rattle.machine_core.specs.Floors.{top, rest, floors_from}
 use Rattle.machine_core.specs.Rules.{grid}
 use Rattle.open_cells.specs.Paths.{Opens}
 
-pub nodes-front : (xs : List (Vec Node Global)) (v : Vec Node Global) (i : ℕ) → i < length xs → nodes_at (xs ++ v ∷ []) i ≡ nodes_at xs i
+pub nodes-front : (xs : List (List Node)) (v : List Node) (i : ℕ) → i < length xs → nodes_at (xs ++ v ∷ []) i ≡ nodes_at xs i
 nodes-front [] v i h = absurd (omega arith)
 nodes-front (x ∷ xs) v zero h = refl
 nodes-front (x ∷ xs) v (suc i) h = nodes-front xs v i (omega arith)
 
-nodes-last : (xs : List (Vec Node Global)) (v : Vec Node Global) → nodes_at (xs ++ v ∷ []) (length xs) ≡ v.items
+nodes-last : (xs : List (List Node)) (v : List Node) → nodes_at (xs ++ v ∷ []) (length xs) ≡ v
 nodes-last [] v = refl
 nodes-last (x ∷ xs) v = nodes-last xs v
 
-pub nodes-get : (xs : List (Vec Node Global)) (i : ℕ) (d : Vec Node Global) → i < length xs → (get_or xs i d).items ≡ nodes_at xs i
+pub nodes-get : (xs : List (List Node)) (i : ℕ) (d : List Node) → i < length xs → get_or xs i d ≡ nodes_at xs i
 nodes-get [] i d h = absurd (omega arith)
 nodes-get (x ∷ xs) zero d h = refl
 nodes-get (x ∷ xs) (suc i) d h = nodes-get xs i d (omega arith)
+
+pub nodes-past : (xs : List (List Node)) (i : ℕ) → length xs ≤ i → nodes_at xs i ≡ []
+nodes-past [] i h = refl
+nodes-past (x ∷ xs) zero h = absurd (omega arith)
+nodes-past (x ∷ xs) (suc i) h = nodes-past xs i (omega arith)
 
 count-same : (f g : ℕ → List Node) (n : ℕ) → ((i : ℕ) → i < n → f i ≡ g i) → count_of f n ≡ count_of g n
 count-same f g zero h = refl
@@ -64,30 +67,30 @@ below-or i n = grind arith
 lt-or-eq : (i n : ℕ) → i < n + 1 → (i < n) ⊎ (i ≡ n)
 lt-or-eq i n h = grind arith
 
-pub at-last : (xs : List (Vec Node Global)) (v : Vec Node Global) (n : ℕ) → length xs ≡ n → nodes_at (xs ++ v ∷ []) n ≡ v.items
+pub at-last : (xs : List (List Node)) (v : List Node) (n : ℕ) → length xs ≡ n → nodes_at (xs ++ v ∷ []) n ≡ v
 at-last xs v n e = ap (nodes_at (xs ++ v ∷ [])) (sym e) ∙ nodes-last xs v
 
-pub built-first : (m : Rules) (targets : List ℤ) (blocks level most share : ℕ) (layers : List (Vec Node Global)) (v : Vec Node Global) (count : ℕ) → layers ≡ v ∷ [] → IsFront m targets blocks level most 0 v.items
-    → count ≡ length v.items → length v.items ≤ share → IsBuilt m targets blocks level most share layers 1 count
+pub built-first : (m : Rules) (targets : List ℤ) (blocks level most share : ℕ) (layers : List (List Node)) (v : List Node) (count : ℕ) → layers ≡ v ∷ [] → IsFront m targets blocks level most 0 v
+    → count ≡ length v → length v ≤ share → IsBuilt m targets blocks level most share layers 1 count
 built-first m targets blocks level most share layers v count e f c le =
-    subst (λ (z : List (Vec Node Global)). IsBuilt m targets blocks level most share z 1 count) (sym e) (record {
+    subst (λ (z : List (List Node)). IsBuilt m targets blocks level most share z 1 count) (sym e) (record {
       size = refl;
       each = λ i h. (let z : 0 ≡ i = omega arith in subst (λ (j : ℕ). IsFront m targets blocks level most j (nodes_at (v ∷ []) j)) z f);
       count_is = omega arith;
       few = omega arith;
     })
 
-pub built-more : (m : Rules) (targets : List ℤ) (blocks level most share : ℕ) (old new : List (Vec Node Global)) (v : Vec Node Global) (n i count more room : ℕ) → IsBuilt m targets blocks level most share old n count
-    → new ≡ old ++ v ∷ [] → i ≡ n → IsFront m targets blocks level most i v.items → room ≡ share - count → length v.items ≤ room → more ≡ count + length v.items → IsBuilt m targets blocks level most share new (n + 1) more
+pub built-more : (m : Rules) (targets : List ℤ) (blocks level most share : ℕ) (old new : List (List Node)) (v : List Node) (n i count more room : ℕ) → IsBuilt m targets blocks level most share old n count
+    → new ≡ old ++ v ∷ [] → i ≡ n → IsFront m targets blocks level most i v → room ≡ share - count → length v ≤ room → more ≡ count + length v → IsBuilt m targets blocks level most share new (n + 1) more
 built-more m targets blocks level most share old new v n i count more room b e ie f re le me =
     let s = b.size in
     let last = at-last old v n s in
-    let fn = subst (λ (j : ℕ). IsFront m targets blocks level most j v.items) ie f in
+    let fn = subst (λ (j : ℕ). IsFront m targets blocks level most j v) ie f in
     let same : count_of (nodes_at (old ++ v ∷ [])) n ≡ count_of (nodes_at old) n = count-same _ _ n (λ j l. nodes-front old v j (omega arith)) in
     let len = ap (length {A = Node}) last in
     let succ : count_of (nodes_at (old ++ v ∷ [])) (n + 1) ≡ count_of (nodes_at (old ++ v ∷ [])) n + length (nodes_at (old ++ v ∷ []) n) = ap (count_of (nodes_at (old ++ v ∷ []))) (add-one' n) in
     let ci = b.count_is in let fw = b.few in
-    subst (λ (z : List (Vec Node Global)). IsBuilt m targets blocks level most share z (n + 1) more) (sym e) (record {
+    subst (λ (z : List (List Node)). IsBuilt m targets blocks level most share z (n + 1) more) (sym e) (record {
       size = (let l : length (old ++ v ∷ []) ≡ length old + 1 = length-append old (v ∷ []) in omega arith);
       each = λ j h. (elim (lt-or-eq j n h) [
         | inl lt ↦ subst (λ (z : List Node). IsFront m targets blocks level most j z) (sym (nodes-front old v j (omega arith))) (b.each j lt)
@@ -139,7 +142,7 @@ many-of m targets blocks level most share f n xs each rise opened more within =
       many = omega arith;
     }
 
-pub overflow-many : (m : Rules) (targets : List ℤ) (blocks level most share : ℕ) (layers : List (Vec Node Global)) (n i count room : ℕ) → IsBuilt m targets blocks level most share layers n count
+pub overflow-many : (m : Rules) (targets : List ℤ) (blocks level most share : ℕ) (layers : List (List Node)) (n i count room : ℕ) → IsBuilt m targets blocks level most share layers n count
     → i ≡ n → n < blocks * m.decoder.samples → room ≡ share - count → IsOverflow m targets blocks level most room i → IsMany m targets blocks level most share
 overflow-many m targets blocks level most share layers n i count room b ie within re o =
     let ci = b.count_is in let fw = b.few in let mo = o.more in
@@ -150,7 +153,7 @@ first-many m laws targets blocks level most share xs f some more =
     let p = mul-pos some laws.some_samples in
     many-of m targets blocks level most share (λ i. []) 0 xs (λ i h. absurd (omega arith)) f.rising f.opened (omega arith) (omega arith)
 
-pub built-all : (m : Rules) (targets : List ℤ) (blocks level most share : ℕ) (layers : List (Vec Node Global)) (n count : ℕ) → IsBuilt m targets blocks level most share layers n count → n ≡ blocks * m.decoder.samples
+pub built-all : (m : Rules) (targets : List ℤ) (blocks level most share : ℕ) (layers : List (List Node)) (n count : ℕ) → IsBuilt m targets blocks level most share layers n count → n ≡ blocks * m.decoder.samples
     → AreFronts m targets blocks level most share layers
 built-all m targets blocks level most share layers n count b e =
     let ci = b.count_is in let fw = b.few in

@@ -1,11 +1,11 @@
 -- From the pieces of one node to a whole layer.
-use Rattle.std.proofs.Common.{◌≡◌, ℕ, zero, suc, ◌+◌, ◌*◌, ◌%◌, ◌/◌, ◌<◌, ◌≤◌, ◌⊎◌, inl, inr, ℤ, pos, List, [], ◌∷◌, length, get_or, arith, refl, ap, sym, ◌∙◌, subst, min, IsTrue, true, false, Bool}
+use Rattle.std.proofs.Common.{◌≡◌, ℕ, suc, ◌+◌, ◌%◌, ◌<◌, ◌≤◌, ◌⊎◌, inl, inr, ℤ, pos, List, length, get_or, arith, ap, sym, ◌∙◌, subst, IsTrue, true, false}
 use Rattle.std.specs.List.{Contains}
 use Rattle.std.proofs.Math.Nat.{mod-lt}
 use borrow.Author.Count.{below_more}
 use Rattle.open_cells.specs.declared.node.Node.{Node}
 use Rattle.open_cells.specs.Nodes.{HasNode, Keeps, IsMerged}
-use Rattle.open_cells.proofs.Merging.{has-kept, keeps-trans, keeps-self, same-get}
+use Rattle.open_cells.proofs.Merging.{has-kept, keeps-trans, same-get}
 use Rattle.open_cells.specs.declared.search.Search.{Search}
 use Rattle.open_cells.specs.Reach.{HasVisited, IsSearch, IsNext, IsOpen, AreOpen, AreBoxes, Reaches, ReachesAll, ReachesBySymbols, ReachesByHeads, ReachesFrom, image_at, IsLayer}
 use Rattle.open_cells.proofs.Pieces.{reaches-kept}

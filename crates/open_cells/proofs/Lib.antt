@@ -6,3 +6,5 @@ pub mod Boxes
 pub mod Pieces
 pub mod Fronts
 pub mod Built
+pub mod Laying
+pub mod RowLaws

@@ -1,13 +1,11 @@
 -- A look-up by the order.
-use Rattle.std.proofs.Common.{◌≡◌, ℕ, zero, suc, ◌+◌, ◌<◌, ◌≤◌, ◌⊎◌, ◌≢◌, inl, inr, List, [], ◌∷◌, length, get_or, arith, refl, ap, sym, ◌∙◌, subst, Option, Some, None, Bool, true, false, cond, nat_eq, ◌&&◌, eq-eqb, eqb-true}
-use Rattle.std.specs.Ordering.{int_eq}
+use Rattle.std.proofs.Common.{◌≡◌, ℕ, zero, suc, ◌<◌, ◌≤◌, ◌⊎◌, ◌≢◌, inl, inr, List, [], ◌∷◌, length, get_or, arith, refl, ap, sym, ◌∙◌, Some, None, true, false, eq-eqb, eqb-true}
 use Rattle.std.specs.Cmp.{signed_Decides}
-use Rattle.std.specs.List.{Contains}
 use Rattle.std.specs.List.Sorted.{IsNonDecreasingBy}
 use Rattle.std.proofs.lemmas.Bool.{cond-true, cond-false, and_parts, and_from, cases_Bool, false_from_ne_true}
 use Rattle.machine_core.specs.declared.boxes.Cell.{Cell}
 use Rattle.open_cells.specs.declared.node.Node.{Node}
-use Rattle.open_cells.specs.Nodes.{rank_of, rank, IsRising, is_at, listed_in, HasNode}
+use Rattle.open_cells.specs.Nodes.{rank_of, rank, IsRising, is_at, listed_in}
 use Rattle.open_cells.proofs.Order.{same-cell}
 use Rattle.open_cells.proofs.Merging.{same-get}
 

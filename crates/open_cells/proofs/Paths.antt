@@ -1,11 +1,9 @@
 -- What holds of every relaxed path.
-use Rattle.std.proofs.Common.{◌≡◌, ℕ, zero, suc, ◌+◌, ◌-◌, ◌*◌, ◌/◌, ◌%◌, ◌<◌, ◌≤◌, List, length, get_or, arith, refl, ap, sym, ◌∙◌, subst, Bool, true, false, IsTrue, cond, ℤ, pos, min}
+use Rattle.std.proofs.Common.{◌≡◌, ℕ, zero, suc, ◌+◌, ◌-◌, ◌*◌, ◌/◌, ◌%◌, ◌<◌, List, get_or, arith, refl, ap, sym, ◌∙◌, subst, IsTrue, cond, ℤ, pos, min}
 use Rattle.std.specs.Prelude.{◌+ℤ◌, ◌-ℤ◌, ◌≤ℤ◌, unsigned_abs, nat_eq}
 use Rattle.std.proofs.lemmas.Int.{ints}
 use Rattle.std.proofs.Math.Nat.{mod-lt}
-use Rattle.std.specs.List.{Contains}
 use Rattle.adpcm_nums.specs.LeastValue.{least}
-use Rattle.adpcm_nums.specs.Sample.{IsSample}
 use Rattle.adpcm_nums.specs.Spans.{le-self}
 use Rattle.machine_core.specs.declared.boxes.Bx.{Bx}
 use Rattle.machine_core.specs.declared.boxes.Cell.{Cell}
@@ -13,11 +11,10 @@ use Rattle.machine_core.specs.declared.pieces.Piece.{Piece}
 use Rattle.machine_core.specs.Blocks.{first_only}
 use Rattle.machine_core.specs.Boxes.{InBox, low_corner, high_corner}
 use Rattle.machine_core.specs.Boxed.{IsMove}
-use Rattle.machine_core.specs.Cells.{cell_of, cell_box, is_cell, is_level, IsBetween}
+use Rattle.machine_core.specs.Cells.{cell_of, cell_box, is_cell, is_level}
 use Rattle.machine_core.specs.Decoder.{start}
-use Rattle.machine_core.specs.Floors.{may_take, rest, top, floors_from, head_floor, floor_in, block_targets}
-use Rattle.machine_core.specs.Rules.{Rules, IsMachine, grid}
-use Rattle.machine_core.specs.Boxed.{IsBoxed}
+use Rattle.machine_core.specs.Floors.{may_take, rest, top, floors_from, head_floor, block_targets}
+use Rattle.machine_core.specs.Rules.{Rules, grid}
 use Rattle.machine_core.proofs.CellLaws.{between, cell-is, met, cell-small}
 use Rattle.machine_core.proofs.States.{is-sample-at}
 use Rattle.box_layers.specs.Looking.{IsCornered, span_count}

@@ -1,15 +1,14 @@
 -- A piece of a node's image, and the cells that it meets.
-use Rattle.std.proofs.Common.{◌≡◌, ℕ, zero, suc, ◌+◌, ◌*◌, ◌%◌, ◌<◌, ◌≤◌, ◌⊎◌, inl, inr, ℤ, pos, List, [], ◌∷◌, length, get_or, arith, refl, ap, sym, ◌∙◌, subst, min, IsTrue, Result, Ok, Err, OnOk}
-use Rattle.std.specs.List.{Contains}
+use Rattle.std.proofs.Common.{◌≡◌, ℕ, zero, suc, ◌+◌, ◌*◌, ◌%◌, ◌<◌, ◌≤◌, inl, inr, List, [], ◌∷◌, length, get_or, arith, refl, ap, sym, ◌∙◌, subst, min, IsTrue, Result, Ok, Err, OnOk}
 use Rattle.open_cells.specs.declared.node.Node.{Node}
 use Rattle.open_cells.specs.Nodes.{HasNode, Keeps}
 use Rattle.open_cells.proofs.Merging.{has-kept}
 use Rattle.open_cells.specs.declared.search.Search.{Search}
-use Rattle.open_cells.specs.Reach.{IsSearch, IsNext, IsOpen, AreOpen, IsNew, IsNewOrOld, Reaches, ReachesAll}
+use Rattle.open_cells.specs.Reach.{IsSearch, IsNext, IsOpen, AreOpen, IsNewOrOld, Reaches}
 use Rattle.block_steps.specs.declared.spots.Spot.{Spot}
 use Rattle.box_layers.specs.Looking.{IsCornered}
 use Rattle.machine_core.specs.Blocks.{first_only}
-use Rattle.machine_core.specs.Boxes.{high_corner, low_corner, point_box}
+use Rattle.machine_core.specs.Boxes.{high_corner, low_corner}
 use Rattle.machine_core.specs.Cells.{IsBetween, cell_box, cell_of}
 use Rattle.machine_core.specs.Floors.{rest, top}
 use Rattle.machine_core.specs.Rules.{Rules, grid}

@@ -1,15 +1,14 @@
 -- How many cells open paths reach.
-use Rattle.std.specs.Prelude.{◌≡◌, ℕ, zero, suc, ◌+◌, ◌*◌, ◌<◌, ◌≤◌, ℤ, List, [], ◌∷◌, length, Vec}
-use Rattle.std.specs.declared.alloc.Global.{Global}
+use Rattle.std.specs.Prelude.{◌≡◌, ℕ, zero, suc, ◌+◌, ◌*◌, ◌<◌, ◌≤◌, ℤ, List, [], ◌∷◌, length}
 use Rattle.open_cells.specs.declared.node.Node.{Node}
-use Rattle.open_cells.specs.Nodes.{IsRising, HasNode}
+use Rattle.open_cells.specs.Nodes.{IsRising}
 use Rattle.open_cells.specs.Reach.{AllOpen, IsFront}
 use Rattle.machine_core.specs.Rules.{Rules}
 
--- the nodes of layer i, none where there is no such layer
-abbrev pub nodes_at : List (Vec Node Global) → ℕ → List Node
+-- the nodes before sample i, none where there are no such
+abbrev pub nodes_at : List (List Node) → ℕ → List Node
 nodes_at [] i = []
-nodes_at (x ∷ xs) zero = x.items
+nodes_at (x ∷ xs) zero = x
 nodes_at (x ∷ xs) (suc i) = nodes_at xs i
 
 -- how many nodes stand in the first n layers
@@ -31,7 +30,7 @@ pub record IsMany (m : Rules) (targets : List ℤ) (blocks level most share : �
   pub many : share < count_of layers (blocks * m.decoder.samples)
 
 -- all layers of a level
-pub record AreFronts (m : Rules) (targets : List ℤ) (blocks level most share : ℕ) (layers : List (Vec Node Global)) : Type 0 where
+pub record AreFronts (m : Rules) (targets : List ℤ) (blocks level most share : ℕ) (layers : List (List Node)) : Type 0 where
   pub size : length layers ≡ blocks * m.decoder.samples
   pub each : (i : ℕ) → i < blocks * m.decoder.samples → IsFront m targets blocks level most i (nodes_at layers i)
   pub few : count_of (nodes_at layers) (blocks * m.decoder.samples) ≤ share
@@ -44,7 +43,7 @@ pub record IsOverflow (m : Rules) (targets : List ℤ) (blocks level most room i
   pub more : room < length nodes
 
 -- the first n layers
-pub record IsBuilt (m : Rules) (targets : List ℤ) (blocks level most share : ℕ) (layers : List (Vec Node Global)) (n count : ℕ) : Type 0 where
+pub record IsBuilt (m : Rules) (targets : List ℤ) (blocks level most share : ℕ) (layers : List (List Node)) (n count : ℕ) : Type 0 where
   pub size : length layers ≡ n
   pub each : (i : ℕ) → i < n → IsFront m targets blocks level most i (nodes_at layers i)
   pub count_is : count ≡ count_of (nodes_at layers) n

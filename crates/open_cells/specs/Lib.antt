@@ -2,3 +2,4 @@ pub mod Nodes
 pub mod Paths
 pub mod Reach
 pub mod Counts
+pub mod Rows

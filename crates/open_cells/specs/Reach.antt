@@ -1,5 +1,5 @@
 -- What one step of the search reaches.
-use Rattle.std.specs.Prelude.{◌≡◌, Result, Err, ℕ, suc, ◌+◌, ◌*◌, ◌^◌, ◌<◌, ◌≤◌, ◌⊎◌, ℤ, pos, List, length, get_or, IsTrue, ◌%◌, true}
+use Rattle.std.specs.Prelude.{◌≡◌, Result, Err, ℕ, suc, ◌+◌, ◌*◌, ◌^◌, ◌<◌, ◌≤◌, ◌⊎◌, ℤ, pos, List, get_or, IsTrue, ◌%◌, true}
 use Rattle.std.specs.List.{Contains}
 use Rattle.open_cells.specs.declared.node.Node.{Node}
 use Rattle.open_cells.specs.declared.node.Halt.{Halt}

@@ -9,10 +9,12 @@ ghost use Rattle.open_cells.specs.Paths.{FitTargets};
 ghost use Rattle.open_cells.specs.Reach.{IsFront, IsSearch, IsCurrent, IsLayer};
 
 use crate::node::{Halt, Node};
+use crate::sample_cells::SampleCells;
 use crate::search::Search;
 use crate::stepping::next_layer;
 use adpcm_nums::NoMemory;
 use block_steps::{Spot, fill_rows, next_spot, targets_in};
+use bumpalo::Bump;
 use machine_core::{Machine, State};
 use std::alloc::Global;
 
@@ -89,9 +91,10 @@ fn grown<M: Machine>(
     }
 }
 
-/// All layers of a level, or word that there are more cells than the share.
-pub fn all_layers<M: Machine>(
+/// All layers of a level, in an arena, or word that there are more cells than the share.
+pub fn all_layers<'a, M: Machine>(
     alloc: Global,
+    arena: &'a Bump,
     machine: &M,
     targets: &[i32],
     rows: &mut [u64],
@@ -100,7 +103,7 @@ pub fn all_layers<M: Machine>(
     level: u32,
     most: u64,
     share: u32,
-) -> Result<Vec<Vec<Node>>, Halt>
+) -> Result<SampleCells<'a>, Halt>
     requires level { IsTrue (is_level level) }
     requires blocks { 0 < blocks }
     requires fit { FitTargets (M.rules machine.now) blocks targets.now }
@@ -109,21 +112,21 @@ pub fn all_layers<M: Machine>(
     requires room { (M.rules machine.now).decoder.heads * (M.rules machine.now).floor_len < 2 ^ 31 }
     requires later { HoldLater (M.rules machine.now) targets.now blocks later.now }
     requires rows { length rows.old ≡ (M.rules machine.now).decoder.heads * (M.rules machine.now).floor_len }
-    ensures few { IfOk result (λ v. AreFronts (M.rules machine.now) targets.now blocks level most share v.items) }
+    ensures few { IfOk result (λ v. AreFronts (M.rules machine.now) targets.now blocks level most share v) }
     ensures many { result ≡ Err Many → IsMany (M.rules machine.now) targets.now blocks level most share }
     ensures rows { length rows.new ≡ (M.rules machine.now).decoder.heads * (M.rules machine.now).floor_len }
 {
     let end = blocks * machine.block_samples();
-    let first = match first_layer(alloc, machine, targets, later, blocks, level, most) {
+    let mut front = match first_layer(alloc, machine, targets, later, blocks, level, most) {
         Ok(v) => v,
         Err(_) => return Err(Halt::NoMemory),
     };
-    if first.len() > share as usize {
+    if front.len() > share as usize {
         return Err(Halt::Many);
     }
-    let mut count = first.len() as u32;
-    let mut layers = Vec::new(alloc);
-    match layers.push(first) {
+    let mut count = front.len() as u32;
+    let mut layers = SampleCells::new(alloc);
+    match layers.push(arena, front.as_slice()) {
         Ok(_) => {}
         Err(_) => return Err(Halt::NoMemory),
     }
@@ -144,15 +147,16 @@ pub fn all_layers<M: Machine>(
             most,
             room: share - count,
         };
-        let made = match grown(alloc, machine, &s, at, layers[i as usize - 1].as_slice()) {
+        let made = match grown(alloc, machine, &s, at, front.as_slice()) {
             Ok(v) => v,
             Err(e) => return Err(e),
         };
         count += made.len() as u32;
-        match layers.push(made) {
+        match layers.push(arena, made.as_slice()) {
             Ok(_) => {}
             Err(_) => return Err(Halt::NoMemory),
         }
+        front = made;
         at = next_spot(machine, at);
     }
     Ok(layers)

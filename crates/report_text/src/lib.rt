@@ -2,11 +2,15 @@
 #![tactic(auto)]
 
 mod fault;
+mod list;
 mod part;
 mod report;
 #[cfg(test)]
 mod tests;
 
 pub use fault::fault_line;
+pub use list::{Reported, report_of};
 pub use part::LinePart;
-pub use report::{LoopShown, SampleReport, block_line, done_line, sample_line};
+pub use report::{
+    BoundReport, LoopShown, SampleReport, block_line, bound_line, done_line, sample_line,
+};

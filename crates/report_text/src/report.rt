@@ -1,5 +1,14 @@
 ghost use Rattle.std.specs.Prelude.{◌≡◌, ◌-◌, ◌≤◌, ◌++◌, IfOk, string_bytes};
-ghost use Rattle.report_text.specs.Report.{error_text, levels_text, end_text, block_line, sample_line, done_line};
+ghost use Rattle.report_text.specs.Report.{
+  head_text,
+  error_text,
+  levels_text,
+  end_text,
+  block_line,
+  sample_line,
+  bound_line,
+  done_line,
+};
 
 use adpcm_nums::{LoopAt, NoMemory, Text};
 use std::alloc::{AllocError, Global};
@@ -58,6 +67,35 @@ pub struct SampleReport {
     pub levels: [u32; 4],
 }
 
+/// What is told of the bound of a sample that is stored. The error and the bound are in squared 16-bit steps.
+#[derive(Debug, Drop)]
+pub struct BoundReport {
+    /// The sample's name.
+    pub name: Text,
+    /// How many blocks it has.
+    pub blocks: u32,
+    /// Its loop.
+    pub shown: LoopShown,
+    /// The sum of the squared errors of what is stored, padding included.
+    pub error: u64,
+    /// No encoding of the same shape has an error below this.
+    pub bound: u64,
+}
+
+/// How the line of a sample begins: a word, the sample's name, its blocks and its loop.
+#[tactic(auto, unfolding(crate::specs::Report::head_text))]
+fn head_string(
+    alloc: Global,
+    word: &str,
+    name: &str,
+    blocks: u32,
+    shown: LoopShown,
+) -> Result<String, AllocError>
+    ensures { IfOk result (λ line. string_bytes line ≡ head_text word.now name.now blocks shown) }
+{
+    format!(in alloc; "{word} {name} blocks {blocks} loop {shown} ")
+}
+
 /// Adds an error, the bound that no error is below, and the gap between them.
 #[tactic(auto, unfolding(crate::specs::Report::error_text))]
 fn push_error(line: &mut String, error: u64, bound: u64) -> Result<(), AllocError>
@@ -85,14 +123,22 @@ fn end_line(line: &mut String, gap: u64) -> Result<(), AllocError>
     line.push_str(if gap == 0 { " optimal\n" } else { "\n" })
 }
 
+/// Adds what the line of one block tells.
 #[tactic(auto, unfolding(crate::specs::Report::block_line))]
+fn push_block(line: &mut String, error: u64, bound: u64) -> Result<(), AllocError>
+    requires { bound ≤ error }
+    ensures { IfOk result (λ _. string_bytes line.new ≡ string_bytes line.old ++ block_line error bound) }
+{
+    push_error(line, error, bound)?;
+    end_line(line, error - bound)
+}
+
 fn block_string(alloc: Global, error: u64, bound: u64) -> Result<String, AllocError>
     requires { bound ≤ error }
     ensures { IfOk result (λ line. string_bytes line ≡ block_line error bound) }
 {
     let mut line = String::new(alloc);
-    push_error(&mut line, error, bound)?;
-    end_line(&mut line, error - bound)?;
+    push_block(&mut line, error, bound)?;
     Ok(line)
 }
 
@@ -101,13 +147,32 @@ fn sample_string(alloc: Global, report: &SampleReport) -> Result<String, AllocEr
     requires { report.now.bound ≤ report.now.error }
     ensures { IfOk result (λ line. string_bytes line ≡ sample_line report.now) }
 {
-    let name = report.name.as_str();
-    let blocks = report.blocks;
-    let shown = report.shown;
-    let mut line = format!(in alloc; "sample {name} blocks {blocks} loop {shown} ")?;
+    let mut line = head_string(
+        alloc,
+        "sample",
+        report.name.as_str(),
+        report.blocks,
+        report.shown,
+    )?;
     push_error(&mut line, report.error, report.bound)?;
     push_levels(&mut line, report.levels)?;
     end_line(&mut line, report.error - report.bound)?;
+    Ok(line)
+}
+
+#[tactic(auto, unfolding(crate::specs::Report::bound_line))]
+fn bound_string(alloc: Global, report: &BoundReport) -> Result<String, AllocError>
+    requires { report.now.bound ≤ report.now.error }
+    ensures { IfOk result (λ line. string_bytes line ≡ bound_line report.now) }
+{
+    let mut line = head_string(
+        alloc,
+        "bound",
+        report.name.as_str(),
+        report.blocks,
+        report.shown,
+    )?;
+    push_block(&mut line, report.error, report.bound)?;
     Ok(line)
 }
 
@@ -130,6 +195,18 @@ pub fn sample_line(alloc: Global, report: &SampleReport) -> Result<Text, NoMemor
     ensures { IfOk result (λ line. line ≡ sample_line report.now) }
 {
     match sample_string(alloc, report) {
+        Ok(line) => Ok(Text::from_string(line)),
+        Err(_) => Err(NoMemory),
+    }
+}
+
+/// The line of the bound of a stored sample:
+/// `bound NAME blocks B loop X error E bound V gap G`, and ` optimal` where the gap is 0 (this project's own choice).
+pub fn bound_line(alloc: Global, report: &BoundReport) -> Result<Text, NoMemory>
+    requires { report.now.bound ≤ report.now.error }
+    ensures { IfOk result (λ line. line ≡ bound_line report.now) }
+{
+    match bound_string(alloc, report) {
         Ok(line) => Ok(Text::from_string(line)),
         Err(_) => Err(NoMemory),
     }

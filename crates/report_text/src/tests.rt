@@ -1,4 +1,7 @@
-use crate::{LinePart, LoopShown, SampleReport, block_line, done_line, fault_line, sample_line};
+use crate::{
+    BoundReport, LinePart, LoopShown, SampleReport, block_line, bound_line, done_line, fault_line,
+    sample_line,
+};
 use adpcm_nums::{LoopAt, Text};
 use std::test::Fail;
 
@@ -43,6 +46,17 @@ fn writes_report_lines(rt: HostRuntime) -> Result<(), Fail> {
         assert!(rt; report.bound <= report.error);
         assert_eq!(rt; sample_line(alloc, &report)?.as_str(), line);
     }
+    let bound = BoundReport {
+        name: Text::copy_of(alloc, "s")?,
+        blocks: 3,
+        shown: LoopShown::Block { block: 2 },
+        error: 20,
+        bound: 12,
+    };
+    assert_eq!(rt;
+        bound_line(alloc, &bound)?.as_str(),
+        "bound s blocks 3 loop 2 error 20 bound 12 gap 8\n"
+    );
     assert_eq!(rt;
         done_line(alloc, 1, 3)?.as_str(),
         "done 1 samples 3 files\n"

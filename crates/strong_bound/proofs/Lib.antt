@@ -1,4 +1,5 @@
 pub mod Counts
+pub mod Clampings
 pub mod BlockOutputs
 pub mod BlockBounds
 pub mod Unders

@@ -5,7 +5,7 @@ ghost use Rattle.machine_core.specs.Sums.{sum_of};
 
 use crate::greedy::block_lead;
 use crate::window::window_bound;
-use linear_machine::LinearMachine;
+use clamp_machine::ClampMachine;
 use machine_core::State;
 
 /// A bound near the error of a sample of so many blocks with this loop block, or of a segment of one, in squared 16-bit
@@ -13,7 +13,7 @@ use machine_core::State;
 ///
 /// No legal list of blocks has a lower error. The search under a head goes on with at most `nodes` rows from each place of
 /// a block.
-pub fn strong_bound<M: LinearMachine>(
+pub fn strong_bound<M: ClampMachine>(
     machine: &M,
     loop_block: Option<u32>,
     targets: &[i32],

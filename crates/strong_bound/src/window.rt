@@ -5,7 +5,7 @@ ghost use Rattle.machine_core.specs.Sums.{cost_at};
 ghost use Rattle.strong_bound.specs.Counted.{counted, enters, is_left};
 
 use crate::heads::{Counting, block_bound_of};
-use linear_machine::LinearMachine;
+use clamp_machine::ClampMachine;
 use machine_core::{HeadRule, rule_for};
 
 /// No window counts so much: at most 58 times 2^32.
@@ -27,7 +27,7 @@ fn first_targets(targets: &[i32]) -> [i32; 30]
 }
 
 /// A bound under what the window of the first block counts.
-fn first_bound<M: LinearMachine>(
+fn first_bound<M: ClampMachine>(
     machine: &M,
     rule: HeadRule,
     near: u32,
@@ -73,7 +73,7 @@ fn leaving(blocks: u32, block: u32) -> bool
 }
 
 /// A bound under what the window of a later block counts.
-fn later_bound<M: LinearMachine>(
+fn later_bound<M: ClampMachine>(
     machine: &M,
     rule: HeadRule,
     near: u32,
@@ -104,7 +104,7 @@ fn later_bound<M: LinearMachine>(
 }
 
 /// A bound under what the window of a block counts of every legal list.
-pub(crate) fn window_bound<M: LinearMachine>(
+pub(crate) fn window_bound<M: ClampMachine>(
     machine: &M,
     loop_block: Option<u32>,
     near: u32,

@@ -1,5 +1,4 @@
-use Rattle.bank_tool.proofs.CommandSteps.{block_obeys, compile_obeys, check_obeys, decompile_obeys, play_obeys}
-use Rattle.bank_tool.proofs.MakeSteps.{make_obeys}
+use Rattle.bank_tool.proofs.CommandSteps.{block_obeys, compile_obeys, check_obeys, bound_obeys, decompile_obeys, play_obeys, make_obeys}
 use Rattle.bank_tool.proofs.top.obey.Goals as goal
 
 pub returns-in-Block-clause-told : goal.returns-in-Block-clause-told
@@ -30,3 +29,8 @@ pub returns-in-Check-clause-told : goal.returns-in-Check-clause-told
 returns-in-Check-clause-told g c = λ files told.
     check_obeys c.args.command.now files c.in-Check.manifest c.as_str-in-Check.result.now
     (g.H.Host.world c.args.host.now) (g.H.Host.world c.run_check.new.host) c.run_check.result c.in-Check.is c.as_str-in-Check.ensures (c.run_check.ensures.told files told)
+
+pub returns-in-Bound-clause-told : goal.returns-in-Bound-clause-told
+returns-in-Bound-clause-told g c = λ files told.
+    bound_obeys c.args.command.now files c.in-Bound.manifest c.as_str-in-Bound.result.now c.in-Bound.effort
+    (g.H.Host.world c.args.host.now) (g.H.Host.world c.run_bound.new.host) c.run_bound.result c.in-Bound.is c.as_str-in-Bound.ensures (c.run_bound.ensures.told files told)

@@ -1,7 +1,6 @@
 use Rattle.std.proofs.Common.{sym, ◌∙◌, Some}
 use Rattle.command_plan.proofs.Promised.{short_for_words}
-use Rattle.bank_tool.proofs.CommandSteps.{no_command, block_answers, compile_answers, check_answers, decompile_answers, play_answers}
-use Rattle.bank_tool.proofs.MakeSteps.{make_answers}
+use Rattle.bank_tool.proofs.CommandSteps.{no_command, block_answers, compile_answers, check_answers, bound_answers, decompile_answers, play_answers, make_answers}
 use Rattle.bank_tool.proofs.top.run.Goals as goal
 
 pub returns-in-Err-clause-told : goal.returns-in-Err-clause-told
@@ -34,3 +33,7 @@ returns-in-Ok-Some-clause-decompile g c = λ files kind file output told is.
 pub returns-in-Ok-Some-clause-check : goal.returns-in-Ok-Some-clause-check
 returns-in-Ok-Some-clause-check g c = λ files manifest told is.
     check_answers (Some c.in-Ok-Some.command) files manifest (g.H.Host.world c.args.host.now) (g.H.Host.world c.obey.new.host) c.obey.result (sym c.in-Ok-Some.field-0-is ∙ c.in-Ok-Some.ensures ∙ is) (c.obey.ensures.told files told)
+
+pub returns-in-Ok-Some-clause-bound : goal.returns-in-Ok-Some-clause-bound
+returns-in-Ok-Some-clause-bound g c = λ files manifest effort told is.
+    bound_answers (Some c.in-Ok-Some.command) files manifest effort (g.H.Host.world c.args.host.now) (g.H.Host.world c.obey.new.host) c.obey.result (sym c.in-Ok-Some.field-0-is ∙ c.in-Ok-Some.ensures ∙ is) (c.obey.ensures.told files told)

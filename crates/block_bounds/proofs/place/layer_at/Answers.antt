@@ -4,34 +4,27 @@ use mir.Val.{SFits}
 use Rattle.std.proofs.lemmas.Int.{ints, to_z-of_z}
 use Rattle.window_floor.proofs.MissLaws.{one-or-two}
 use Rattle.window_floor.specs.Miss.{rho_of}
-use Rattle.window_floor.specs.Numbers.{row_of}
-use Rattle.block_bounds.specs.Covers.{IsKnownRow}
+use Rattle.window_floor.specs.Numbers.{row_of, windows_of}
+use Rattle.block_bounds.specs.Covers.{IsOverRow, IsUnderRow}
 use Rattle.block_bounds.proofs.PlaceLaws.{end-is, less-natural, difference-held}
 use Rattle.block_bounds.proofs.place.layer_at.Goals as goal
 
 pub end_at-low-requires-clause-scale : goal.end_at-low-requires-clause-scale
-end_at-low-requires-clause-scale c = let fs : SFits w64 c.args.w.scale = search rules in simp to_z-of_z (one-or-two c.args.w.scale c.args.w.scale_is)
+end_at-low-requires-clause-scale c = let fs : SFits w64 c.args.b.row.scale = search rules in simp to_z-of_z (one-or-two c.args.b.row.scale c.args.b.row.scale_is)
 
 pub end_at-high-requires-clause-scale : goal.end_at-high-requires-clause-scale
-end_at-high-requires-clause-scale c = let fs : SFits w64 c.args.w.scale = search rules in simp to_z-of_z (one-or-two c.args.w.scale c.args.w.scale_is)
-
-pub known_row-requires-clause-scale : goal.known_row-requires-clause-scale
-known_row-requires-clause-scale c = let fs : SFits w64 c.args.w.scale = search rules in simp to_z-of_z (one-or-two c.args.w.scale c.args.w.scale_is)
-
-pub known_row-requires-2-clause-scale : goal.known_row-requires-2-clause-scale
-known_row-requires-2-clause-scale c = let fs : SFits w64 c.args.w.scale = search rules in simp to_z-of_z (one-or-two c.args.w.scale c.args.w.scale_is)
+end_at-high-requires-clause-scale c = let fs : SFits w64 c.args.b.row.scale = search rules in simp to_z-of_z (one-or-two c.args.b.row.scale c.args.b.row.scale_is)
 
 pub end_at-low-requires-clause-x_low : goal.end_at-low-requires-clause-x_low
-end_at-low-requires-clause-x_low c = let w = c.args.w in omega (arith, ints, w.bias_is.low, w.bias_is.high, w.errs_is.low, w.errs_is.high)
+end_at-low-requires-clause-x_low c = let w = c.args.b.row in omega (arith, ints, w.bias_is.low, w.bias_is.high, w.errs_is.low, w.errs_is.high)
 
 pub end_at-low-requires-clause-x_high : goal.end_at-low-requires-clause-x_high
-end_at-low-requires-clause-x_high c = let w = c.args.w in omega (arith, ints, w.bias_is.low, w.bias_is.high, w.errs_is.low, w.errs_is.high)
+end_at-low-requires-clause-x_high c = let w = c.args.b.row in omega (arith, ints, w.bias_is.low, w.bias_is.high, w.errs_is.low, w.errs_is.high)
 
 pub returns : goal.returns
-returns c =
-    let w = c.args.w in
+returns c samples stand =
+    let w = c.args.b.row in
     let f1 : SFits w64 w.scale = search rules in let f4 : SFits w32 c.args.r = c.ranges.r in let f5 : SFits w32 c.args.o = c.ranges.o in let f6 : SFits w32 c.args.x = c.ranges.x in
-    let f7 : SFits w32 c.args.first = c.ranges.first in let f8 : SFits w32 c.args.second = c.ranges.second in
     let scale : to_z w64 (of_z w64 w.scale) ≡ w.scale = omega (arith, ints, w.scale_is.low, w.scale_is.high) in
     let bias : to_z w64 (of_z w64 w.bias) ≡ w.bias = omega (arith, ints, w.bias_is.low, w.bias_is.high) in
     let both : to_z w64 (of_z w64 (to_z w64 (of_z w64 w.bias) -ℤ to_z w64 (of_z w64 w.errs))) ≡ w.bias -ℤ w.errs = difference-held w.bias w.errs w.bias_is.low (omega (arith, ints, w.bias_is.high)) w.errs_is.low w.errs_is.high in
@@ -39,15 +32,17 @@ returns c =
     let rho : c.rho-rho.result ≡ rho_of (row_of w) c.args.r c.args.o c.args.x = simp to_z-of_z at c.rho-rho.ensures.value in
     let low : to_z w64 (of_z w64 c.end_at-low.result) ≡ c.end_at-low.result = omega (arith, ints, c.end_at-low.ensures.low, c.end_at-low.ensures.high) in
     let high : to_z w64 (of_z w64 c.end_at-high.result) ≡ c.end_at-high.result = omega (arith, ints, c.end_at-high.ensures.low, c.end_at-high.ensures.high) in
-    let under : IsKnownRow w.scale c.args.first c.args.x c.known_row.result = simp to_z-of_z at c.known_row.ensures.known in
-    let over : IsKnownRow w.scale c.args.second c.args.x c.known_row-2.result = simp to_z-of_z at c.known_row-2.ensures.known in
+    let over : IsOverRow (windows_of c.args.b samples) c.args.x c.base_row-base.result c.over_row.result = simp to_z-of_z at (c.over_row.ensures.over samples stand) in
+    let under : IsUnderRow (windows_of c.args.b samples) c.args.x c.base_row-base.result c.under_row.result = simp to_z-of_z at (c.under_row.ensures.under samples stand) in
     record {
+      older = c.requires.r;
+      last = c.requires.o;
       d = c.base_row-base.ensures.d;
       a = c.base_row-base.ensures.a;
       b = c.base_row-base.ensures.b;
       low = end-is c.end_at-low.result _ w.scale _ (w.bias -ℤ w.errs) _ c.rho-rho.result _ _ _ (c.base_row-base.ensures.low ∙ low) c.end_at-low.ensures.value scale both held rho (less-natural w.bias w.errs w.errs_is.low);
       high = end-is c.end_at-high.result _ w.scale _ w.bias _ c.rho-rho.result _ _ _ (c.base_row-base.ensures.high ∙ high) c.end_at-high.ensures.value scale bias held rho refl;
       weighs = c.base_row-base.ensures.weight;
-      first = under;
-      second = over;
+      first = over;
+      second = under;
     }

@@ -9,12 +9,12 @@ returns-clause-shown g c =
     let m = g.M.Machine.rules c.args.machine.now in
     let laws : HasLaws m = record { machine = g.met.M.Machine.lawful c.args.machine.now; boxed = g.met.M.Machine.boxed c.args.machine.now; filed = c.requires.filed } in
     let small : c.args.most ≤ top = omega arith in
-    floors-shown m c.args.targets.now c.args.blocks c.args.most c.args.share _ _ laws c.requires.fit c.requires.most small (later-first m c.args.targets.now c.args.blocks c.args.later.now c.requires.later) refl refl refl c.new.ensures.items
+    floors-shown m c.args.targets.now c.args.blocks c.args.most c.args.share _ _ laws c.requires.fit c.requires.most small (later-first m c.args.targets.now c.args.blocks c.args.later.now c.requires.later) refl refl refl c.new.ensures
 
 pub returns-clause-floor_only : goal.returns-clause-floor_only
 returns-clause-floor_only g c =
     let m = g.M.Machine.rules c.args.machine.now in
     let laws : HasLaws m = record { machine = g.met.M.Machine.lawful c.args.machine.now; boxed = g.met.M.Machine.boxed c.args.machine.now; filed = c.requires.filed } in
     let small : c.args.most ≤ top = omega arith in
-    λ e. (none-bound m c.args.targets.now c.args.blocks 255 c.args.most _ c.new.result.items laws c.requires.fit c.requires.most small
-    (later-first m c.args.targets.now c.args.blocks c.args.later.now c.requires.later) c.new.ensures.items).0
+    λ e. (none-bound m c.args.targets.now c.args.blocks 255 c.args.most _ c.new.result laws c.requires.fit c.requires.most small
+    (later-first m c.args.targets.now c.args.blocks c.args.later.now c.requires.later) c.new.ensures).0

@@ -12,7 +12,7 @@ use Rattle.machine_core.specs.Cells.{is_cell}
 use Rattle.machine_core.specs.Rules.{grid}
 use Rattle.machine_core.proofs.CellLaws.{cell-is}
 use Rattle.branch_bound.proofs.walking.walk.Goals as goal
-use Rattle.branch_bound.proofs.walking.walk.Goals.{then-at-eq0+in-Ok, else-at-eq0}
+use Rattle.branch_bound.proofs.walking.walk.Goals.{then-at-eq0+in-Ok-push, else-at-eq0}
 use Rattle.box_layers.specs.Certificates.{lane_at}
 
 pub next_head-head-requires-clause-left : goal.next_head-head-requires-clause-left
@@ -21,8 +21,8 @@ next_head-head-requires-clause-left g c =
     let s = ap (λ z. c.args.blocks * z) c.block_samples.ensures in let t = c.loop-i-test.true in let ix = c.loop-i.invariant.index in
     let w = walk-at m c.args.targets.now c.args.blocks c.args.most c.args.total c.args.layers.now c.loop-i.heads.items c.loop-i.symbols.items c.loop-i.state c.loop-i.head c.loop-i.left c.loop-i.i c.loop-i.at.index (sym ix) c.loop-i.invariant.walk in
     let up : c.loop-i.i + 1 ≡ suc c.loop-i.at.index = omega arith in
-    found-at m c.args.targets.now c.args.blocks c.args.most c.args.total c.args.layers.now c.loop-i.heads.items c.loop-i.symbols.items c.loop-i.at.index c.loop-i.head c.loop-i.left c.loop-i.state c.layer_at-next.result.now c.cell_of-cell.result
-    c.requires.grounds w (omega arith) c.requires.less (c.layer_at-next.ensures ∙ ap (nodes_at c.args.layers.now) up) c.cell_of-cell.ensures
+    found-at m c.args.targets.now c.args.blocks c.args.most c.args.total c.args.layers.now c.loop-i.heads.items c.loop-i.symbols.items c.loop-i.at.index c.loop-i.head c.loop-i.left c.loop-i.state c.as_slice-next.result.now c.cell_of-cell.result
+    c.requires.grounds w (omega arith) c.requires.less (c.as_slice-next.ensures.value ∙ c.in-Ok.ensures ∙ ap (nodes_at c.args.layers.now) up) c.cell_of-cell.ensures
 
 pub step-state-requires-clause-pos : goal.step-state-requires-clause-pos
 step-state-requires-clause-pos g c =
@@ -58,16 +58,16 @@ loop-i-preserved g c =
       symbol_fits = c.pick_symbol-symbol.ensures.symbol;
     } in
     let now : HeadsNow m c.loop-i.heads.items c.if-at-eq0.heads.items i head = (elim c.if-at-eq0.branch [
-      | then-at-eq0+in-Ok w' ↦ (let z = w'.if-at-eq0.true in heads-first m laws.machine c.loop-i.heads.items c.if-at-eq0.heads.items i (lane_at m c.loop-i.head i) head w.head_count (sym p ∙ z)
-          (ap (λ z. z.items) w'.heads-is ∙ w'.in-Ok.ensures.items) w.heads_fit w.heads_allowed c.next_head-head.ensures.head c.next_head-head.ensures.takes)
+      | then-at-eq0+in-Ok-push w' ↦ (let z = w'.if-at-eq0.true in heads-first m laws.machine c.loop-i.heads.items c.if-at-eq0.heads.items i (lane_at m c.loop-i.head i) head w.head_count (sym p ∙ z)
+          (ap (λ z. z.items) w'.heads-is ∙ w'.in-Ok-push.ensures.items) w.heads_fit w.heads_allowed c.next_head-head.ensures.head c.next_head-head.ensures.takes)
       | else-at-eq0 w' ↦ (let ne = w'.if-at-eq0.false in let later : 0 < i % m.decoder.samples = omega arith in heads-later m laws.machine c.loop-i.heads.items c.if-at-eq0.heads.items i head w.head_count later
           (ap (λ z. z.items) w'.heads-is) w.heads_fit w.heads_allowed (c.next_head-head.ensures.same (omega arith) ∙ w.head_is later))
     ]) in
     record {
       walk = walk-now m c.args.targets.now c.args.blocks c.args.most c.args.total c.args.layers.now c.loop-i.heads.items c.if-at-eq0.heads.items c.loop-i.symbols.items c.push-in-loop-i.new.self.items c.loop-i.state c.step-state.result
-          c.loop-i.head head c.pick_symbol-symbol.result c.loop-i.left c.saturating_sub-left.result i c.loop-i.at.place c.cost.result (c.loop-i.i + 1) c.target_at.result c.layer_at-next.result.now c.cell_of-cell.result
+          c.loop-i.head head c.pick_symbol-symbol.result c.loop-i.left c.saturating_sub-left.result i c.loop-i.at.place c.cost.result (c.loop-i.i + 1) c.target_at.result c.as_slice-next.result.now c.cell_of-cell.result
           c.requires.grounds w taken now c.next_head-head.ensures.takes c.pick_symbol-symbol.ensures.way c.requires.less (omega arith) within
-          (c.layer_at-next.ensures ∙ ap (nodes_at c.args.layers.now) up) c.cell_of-cell.ensures c.in-Ok-push.ensures.items c.step-state.ensures p cost target c.saturating_sub-left.ensures up;
+          (c.as_slice-next.ensures.value ∙ c.in-Ok.ensures ∙ ap (nodes_at c.args.layers.now) up) c.cell_of-cell.ensures c.in-Ok-push-2.ensures.items c.step-state.ensures p cost target c.saturating_sub-left.ensures up;
       state_ok = subst (λ z. IsTrue (m.decoder.is_state z)) (sym c.step-state.ensures) (laws.machine.steps head c.loop-i.at.place c.pick_symbol-symbol.result c.loop-i.state c.next_head-head.ensures.head (omega arith)
           (subst (λ (z : ℕ). c.pick_symbol-symbol.result < m.decoder.symbols z) (sym p) c.pick_symbol-symbol.ensures.symbol) c.loop-i.invariant.state_ok);
       spot = c.next_spot-at.ensures.spot;

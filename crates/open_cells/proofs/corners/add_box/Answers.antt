@@ -1,4 +1,4 @@
-use Rattle.std.proofs.Common.{arith, sym, ◌∙◌, ap, refl, w32, to_z, of_z, ◌+◌, OnOk, rules, ◌≤◌, ◌<◌}
+use Rattle.std.proofs.Common.{arith, w32, rules, ◌≤◌, ◌<◌}
 use Rattle.std.proofs.lemmas.Int.{to_z-of_z}
 use mir.Val.{SFits}
 use Rattle.open_cells.proofs.Boxes.{boxed-more, box-from, boxed-all}

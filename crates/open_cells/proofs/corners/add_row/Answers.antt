@@ -1,7 +1,7 @@
-use Rattle.std.proofs.Common.{arith, sym, ◌∙◌, ap, refl, w32, to_z, of_z, ◌+◌, OnOk, rules, ◌<◌}
+use Rattle.std.proofs.Common.{arith, w32, rules, ◌<◌}
 use Rattle.std.proofs.lemmas.Int.{to_z-of_z}
 use mir.Val.{SFits}
-use Rattle.open_cells.proofs.Boxes.{Rowed, rowed-more, row-from}
+use Rattle.open_cells.proofs.Boxes.{rowed-more, row-from}
 use Rattle.open_cells.proofs.corners.add_row.Goals as goal
 use Rattle.box_layers.specs.Looking.{span_count}
 

@@ -1,7 +1,6 @@
-use Rattle.std.proofs.Common.{◌≡◌, ◌≤◌, ◌<◌, arith, ap, sym, ◌∙◌, subst, List, [], ◌∷◌, ◌++◌}
+use Rattle.std.proofs.Common.{◌≤◌, arith, ap, ◌∙◌, List, [], ◌∷◌, ◌++◌}
 use Rattle.machine_core.specs.Floors.{top}
 use Rattle.open_cells.specs.declared.node.Node.{Node}
-use Rattle.open_cells.specs.Reach.{IsFront}
 use Rattle.open_cells.proofs.Built.{front-none, front-one}
 use Rattle.open_cells.proofs.layers.first_layer.Goals as goal
 use Rattle.open_cells.proofs.layers.first_layer.Goals.{then-later-most+in-Ok, else-later-most}

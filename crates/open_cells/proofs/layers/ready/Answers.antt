@@ -1,4 +1,4 @@
-use Rattle.std.proofs.Common.{◌<◌, arith}
+use Rattle.std.proofs.Common.{arith}
 use Rattle.machine_core.proofs.Places.{block-below}
 use Rattle.open_cells.proofs.layers.ready.Goals as goal
 

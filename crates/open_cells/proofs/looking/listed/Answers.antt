@@ -1,6 +1,4 @@
-use Rattle.std.proofs.Common.{◌≡◌, ◌<◌, ◌≤◌, length, arith, sym, ◌∙◌, get_or, ap, refl, ◌⊎◌, inl, inr, ◌≢◌, subst, ℕ}
-use Rattle.std.proofs.lemmas.Bool.{cases_lt}
-use Rattle.open_cells.specs.Nodes.{rank, rank_of}
+use Rattle.std.proofs.Common.{arith, sym, ◌∙◌}
 use Rattle.open_cells.proofs.Look.{listed-none, listed-here, none-at}
 use Rattle.open_cells.proofs.Order.{same-place}
 use Rattle.open_cells.proofs.Merging.{blank}

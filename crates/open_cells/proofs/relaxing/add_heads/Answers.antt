@@ -1,4 +1,4 @@
-use Rattle.std.proofs.Common.{◌≡◌, ℕ, suc, arith, sym, ◌∙◌, ap, refl, ◌<◌, ◌+◌}
+use Rattle.std.proofs.Common.{arith, sym, ◌∙◌, ap}
 use Rattle.open_cells.proofs.Fronts.{headed-more, headed-not, headed-now, node-cell}
 use Rattle.open_cells.proofs.relaxing.add_heads.Goals as goal
 use Rattle.open_cells.proofs.relaxing.add_heads.Goals.{then-takes+in-Ok, else-takes}

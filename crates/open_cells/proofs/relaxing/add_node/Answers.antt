@@ -1,4 +1,4 @@
-use Rattle.std.proofs.Common.{◌≡◌, ◌<◌, ◌%◌, arith}
+use Rattle.std.proofs.Common.{◌<◌, ◌%◌, arith}
 use Rattle.open_cells.proofs.Fronts.{node-cell, lane-reaches}
 use Rattle.open_cells.proofs.Pieces.{on-ok}
 use Rattle.open_cells.proofs.relaxing.add_node.Goals as goal

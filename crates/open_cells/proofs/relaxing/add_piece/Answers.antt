@@ -1,5 +1,5 @@
 use Rattle.block_steps.proofs.Steps.{place-fits}
-use Rattle.std.proofs.Common.{◌≡◌, arith, sym, ◌∙◌, ap, refl, OnOk, subst, ◌≤◌, ◌<◌, ◌+◌, min, rules}
+use Rattle.std.proofs.Common.{arith, ◌≤◌, ◌<◌, ◌+◌, min}
 use Rattle.open_cells.proofs.Merging.{keeps-self}
 use Rattle.open_cells.proofs.Pieces.{tried, piece-opens, piece-reaches, piece-shut, cornered-at, on-ok-both}
 use Rattle.open_cells.proofs.relaxing.add_piece.Goals as goal

@@ -1,4 +1,4 @@
-use Rattle.std.proofs.Common.{◌≡◌, ℕ, suc, arith, sym, ◌∙◌, ap, refl, ◌<◌, ◌+◌, get_or, subst}
+use Rattle.std.proofs.Common.{ℕ, get_or, subst}
 use borrow.Author.Count.{below_more}
 use Rattle.open_cells.proofs.Merging.{keeps-trans}
 use Rattle.open_cells.specs.Reach.{Reaches}

@@ -1,4 +1,4 @@
-use Rattle.std.proofs.Common.{◌≡◌, ℕ, suc, arith, sym, ◌∙◌, ap, refl, ◌<◌, ◌+◌, ◌-◌, length}
+use Rattle.std.proofs.Common.{suc, arith, ◌∙◌, ap}
 use Rattle.box_layers.specs.Certificates.{lane_at}
 use Rattle.open_cells.proofs.Merging.{keeps-trans, keeps-self}
 use Rattle.open_cells.proofs.Fronts.{boxes-at, symbols-more, all-same, symbols-start, symbols-all}

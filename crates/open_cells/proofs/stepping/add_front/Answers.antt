@@ -1,4 +1,4 @@
-use Rattle.std.proofs.Common.{◌≡◌, ℕ, suc, arith, sym, ◌∙◌, ap, refl, ◌<◌, ◌+◌}
+use Rattle.std.proofs.Common.{arith}
 use Rattle.open_cells.proofs.Merging.{keeps-trans, blank}
 use Rattle.open_cells.proofs.Fronts.{from-more}
 use Rattle.open_cells.proofs.stepping.add_front.Goals as goal

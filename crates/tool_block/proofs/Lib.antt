@@ -1,0 +1,3 @@
+pub mod ReadSamples
+pub mod ZeroBlock
+pub mod BlockSteps

@@ -1,0 +1,3 @@
+pub mod CheckReads
+pub mod CheckSteps
+pub mod CheckedSteps

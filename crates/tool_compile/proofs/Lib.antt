@@ -1,0 +1,4 @@
+pub mod BankSteps
+pub mod CompileSteps
+pub mod CompiledSteps
+pub mod MakeSteps

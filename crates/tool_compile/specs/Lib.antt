@@ -1,0 +1,4 @@
+pub mod Make
+pub mod Compile
+pub mod Stored
+pub mod Compiled

@@ -1,0 +1,5 @@
+pub mod EntrySteps
+pub mod DecompileSteps
+pub mod EntryNames
+pub mod FrontSteps
+pub mod DecompiledSteps

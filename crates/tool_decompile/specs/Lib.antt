@@ -1,0 +1,3 @@
+pub mod EntryLines
+pub mod EntryFiles
+pub mod Decompile

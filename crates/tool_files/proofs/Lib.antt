@@ -1,0 +1,5 @@
+pub mod SourceSteps
+pub mod RoomSteps
+pub mod StoredReads
+pub mod Unwritten
+pub mod Pairs

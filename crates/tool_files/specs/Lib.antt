@@ -1,0 +1,4 @@
+pub mod Source
+pub mod Sources
+pub mod Ready
+pub mod Banks

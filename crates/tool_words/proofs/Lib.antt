@@ -1,0 +1,5 @@
+pub mod NumberSteps
+pub mod SplitSteps
+pub mod SplitForms
+pub mod GrammarSteps
+pub mod WordSteps

@@ -16,7 +16,7 @@ import seeded_banks
 from built_program import adbank, compile_files
 from plain_bound import bound_bank
 
-OWN, FRAMES = "m.toml", 1600
+OWN, FRAMES = "m.toml", 480
 BEAMS, EFFORTS = (1, 8, 32), (0, 20, 500)
 TABLE = []
 

@@ -15,6 +15,7 @@ import time
 HERE = os.path.dirname(os.path.abspath(__file__))
 ADBANK = os.path.join(HERE, "..", "build", "adbank")
 WORK = os.path.join(HERE, "..", "build", "bench")
+OUTSIDE = os.path.join(HERE, "..", "tests", "outside")
 
 
 def chunk(name, body):
@@ -138,6 +139,60 @@ def search():
     print()
 
 
+class Counting:
+    """A machine of the plain search that counts the pieces which may lead on."""
+
+    def __init__(self, machine):
+        self.machine, self.pieces, self.most = machine, 0, 0
+
+    def __getattr__(self, name):
+        return getattr(self.machine, name)
+
+    def symbols(self, place, target, slack):
+        self.most = slack
+        return self.machine.symbols(place, target, slack)
+
+    def image(self, head, place, symbol, box, target):
+        made = [piece for piece in self.machine.image(head, place, symbol, box, target) if piece[1] <= self.most]
+        self.pieces += len(made)
+        return made
+
+
+def plain_pieces(samples, beam):
+    """The cells and the pieces of a search at level 0, by the plain program."""
+    sys.path.insert(0, OUTSIDE)
+    import plain_machines
+    import plain_search
+
+    machine = Counting(plain_machines.machine_of({"format": "brr"}))
+    search = plain_search.Search(machine, samples, plain_search.beam(machine, samples, beam)[2])
+    fronts = search.forward(0, 1000000)
+    return sum(map(len, fronts)), machine.pieces
+
+
+def steps():
+    """A search of single states beside as many steps of a decoder in C as it makes pieces."""
+    compiler = shutil.which("cc")
+    if compiler is None or sys.version_info < (3, 11):
+        print("steps: skipped, since they need cc and Python 3.11")
+        return
+    program = os.path.join(WORK, "step_calls")
+    subprocess.run([compiler, "-O2", "-o", program, os.path.join(HERE, "step_calls.c")], check=True)
+    samples = [value // 16 for value in noise(96)]
+    write("p.wav", wave(samples))
+    write("p.toml", manifest("p", "p.wav", beam=8, budget=1000000))
+    write("p0.toml", manifest("p", "p.wav", beam=8, budget=0))
+    without = run("compile", "p0.toml")[0]
+    taken = run("compile", "p.toml")[0] - without
+    listed = cells_in("p.s.cert")[0]
+    cells, pieces = plain_pieces(samples, 8)
+    stepped = float(subprocess.run([program, str(pieces)], stdout=subprocess.PIPE, check=True).stdout.split()[0])
+    print("%-34s %10s %10s %10s %12s %8s" % ("search of single states", "seconds", "cells", "pieces", "their steps", "ratio"))
+    print("%-34s %10.3f %10d %10d %12.4f %8.1f" % ("brr, 6 blocks", taken, listed, pieces, stepped, taken / stepped))
+    assert cells == listed, (cells, listed)
+    print()
+
+
 def hiss(frames):
     """Loud noise."""
     state, out = 1, []
@@ -161,11 +216,31 @@ def square(frames):
     return [32767 if at // 40 % 2 == 0 else -32768 for at in range(frames)]
 
 
+def plain_bound():
+    """The plain program of bounds near the error, where there is a compiler for it."""
+    compiler = shutil.which("g++") or shutil.which("clang++")
+    if compiler is None:
+        return None
+    program = os.path.join(WORK, "strong_bound")
+    subprocess.run([compiler, "-O2", "-std=c++17", "-o", program, os.path.join(OUTSIDE, "strong_bound.cpp")], check=True)
+    return program
+
+
+def plainly(program, kind, samples, effort):
+    """How long the plain program takes."""
+    given = " ".join(map(str, samples)).encode()
+    begin = time.perf_counter()
+    subprocess.run([program, kind, "bound", effort], input=given, stdout=subprocess.DEVNULL, check=True)
+    return time.perf_counter() - begin
+
+
 def bounds():
     """Bounds near the error of one second of sound, by effort."""
-    print("%-34s %10s %12s" % ("bound, 32000 frames", "seconds", "bound/error"))
+    print("%-34s %10s %12s %10s" % ("bound, 32000 frames", "seconds", "bound/error", "plainly"))
+    program = plain_bound()
     for name, make in (("noise", hiss), ("pluck", pluck), ("square", square)):
-        write(name + ".wav", wave(make(32000)))
+        samples = make(32000)
+        write(name + ".wav", wave(samples))
         for kind in ("brr", "spu"):
             own = name + kind
             write(own + ".toml", manifest(own, name + ".wav", kind))
@@ -173,7 +248,8 @@ def bounds():
             for effort in ("0", "500"):
                 taken, said = run("bound", own + ".toml", effort)
                 error, bound = (int(said.split(word)[1].split()[0]) for word in (" error ", " bound "))
-                print("%-34s %10.3f %12.3f" % ("%s, %s, effort %s" % (name, kind, effort), taken, bound / error if error else 1))
+                plain = "%10.3f" % plainly(program, kind, samples, effort) if program else ""
+                print("%-34s %10.3f %12.3f %s" % ("%s, %s, effort %s" % (name, kind, effort), taken, bound / error if error else 1, plain))
     print()
 
 
@@ -209,6 +285,7 @@ def main():
     reading()
     beams()
     search()
+    steps()
     bounds()
     profile("f8192.toml")
 

@@ -2,7 +2,7 @@
 use Rattle.std.proofs.Common.{◌≡◌, ℕ, zero, suc, ◌+◌, ◌/◌, ◌%◌, ◌<◌, ◌≤◌, ℤ, pos, List, get_or, sym, ◌∙◌, ap, arith, inl, inr, ◌⊎◌, true, false, nat_eq, cond, Bool, IsTrue}
 use Rattle.machine_core.specs.Blocks.{first_only}
 use Rattle.std.proofs.lemmas.Bool.Decides.{nat_tests}
-use Rattle.std.proofs.Math.Nat.{mod-lt}
+use Rattle.std.proofs.Math.Nat.{mod-lt, eq-or-lt_of_le}
 use Rattle.machine_core.specs.declared.boxes.Bx.{Bx}
 use Rattle.machine_core.specs.declared.boxes.Cell.{Cell}
 use Rattle.machine_core.specs.declared.pieces.Piece.{Piece}
@@ -28,12 +28,6 @@ not-zero a h = grind (arith, nat_tests)
 is-zero : (a : ℕ) → a ≡ 0 → nat_eq a 0 ≡ true
 is-zero a h = grind (arith, nat_tests)
 
-less-or-same : (a b : ℕ) → a < b → (suc a < b) ⊎ (suc a ≡ b)
-less-or-same a b h = grind arith
-
-below-or-same : (k h : ℕ) → k < h + 1 → (k < h) ⊎ (k ≡ h)
-below-or-same k h l = grind arith
-
 -- behind the first sample the lane decides
 pub lane-of : (m : Rules) (i lane h : ℕ) → 0 < i % m.decoder.samples → may_take m first_only i lane h ≡ true → m.lane h (i % m.decoder.samples) ≡ lane
 lane-of m i lane h p t = same-true _ _ (sym (cond-false (nat_eq (i % m.decoder.samples) 0) _ (nat_eq (m.lane h (i % m.decoder.samples)) lane) (not-zero _ p)) ∙ t)
@@ -47,14 +41,14 @@ pub lanes-next : (m : Rules) → IsMachine m → (i h h' : ℕ) → h < m.decode
 lanes-next m laws i h h' hl hl' p e =
     let n = m.decoder.samples in
     let q = suc i % n in
-    elim (less-or-same (i % n) n (mod-lt i laws.some_samples)) [
-      | inl less ↦ (
+    elim (eq-or-lt_of_le {n = suc (i % n)} {m = n} (mod-lt i laws.some_samples)) [
+      | inl last ↦ (
+          let z = is-zero q (place-over i n laws.some_samples last) in
+          cond-true (nat_eq q 0) 65535 (m.lane h q) z ∙ sym (cond-true (nat_eq q 0) 65535 (m.lane h' q) z))
+      | inr less ↦ (
           let s : q ≡ suc (i % n) = place-within i n less in
           let l : m.lane h q ≡ m.lane h' q = ap (m.lane h) s ∙ (laws.lanes_stay h h' (i % n) hl hl' p less e ∙ sym (ap (m.lane h') s)) in
           ap (λ z. cond (nat_eq q 0) 65535 z) l)
-      | inr last ↦ (
-          let z = is-zero q (place-over i n laws.some_samples last) in
-          cond-true (nat_eq q 0) 65535 (m.lane h q) z ∙ sym (cond-true (nat_eq q 0) 65535 (m.lane h' q) z))
     ]
 
 -- heads that share a lane at place 1 share one at every later place
@@ -110,7 +104,7 @@ pub floor-none : (m : Rules) (targets : List ℤ) (i lane : ℕ) (bx : Bx) → (
 floor-none m targets i lane bx h = all-top m.decoder.heads (head_floor m first_only targets i lane bx) (λ k l. cond-false (may_take m first_only i lane k) (m.floor k (i % m.decoder.samples) bx (block_targets m targets (i / m.decoder.samples))) top (h k l))
 
 pub none-more : (m : Rules) (i lane h : ℕ) → ((k : ℕ) → k < h → may_take m first_only i lane k ≡ false) → may_take m first_only i lane h ≡ false → (k : ℕ) → k < h + 1 → may_take m first_only i lane k ≡ false
-none-more m i lane h all here k l = elim (below-or-same k h l) [ inl less ↦ all k less | inr same ↦ ap (may_take m first_only i lane) same ∙ here ]
+none-more m i lane h all here k l = elim (eq-or-lt_of_le {n = k} {m = h} (omega arith)) [ inl same ↦ ap (may_take m first_only i lane) same ∙ here | inr less ↦ all k less ]
 
 heads-alike : (m : Rules) → IsMachine m → IsBoxed m → (targets : List ℤ) (c : Certificate) (i : ℕ) (cell : Cell) (h h' : ℕ) → h < m.decoder.heads → h' < m.decoder.heads → 0 < i % m.decoder.samples → m.lane h (i % m.decoder.samples) ≡ m.lane h' (i % m.decoder.samples)
     → by_head m targets c i cell h ≡ by_head m targets c i cell h'

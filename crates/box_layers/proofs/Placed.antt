@@ -4,6 +4,7 @@ use Rattle.std.specs.Prelude.{IsTrue}
 use Rattle.std.proofs.lemmas.List.{map-append}
 use Rattle.std.proofs.lemmas.Bool.{cond-true, cond-false}
 use Rattle.std.proofs.lemmas.Bool.Decides.{nat_tests}
+use Rattle.std.proofs.Math.Nat.{eq-or-lt_of_le}
 use Rattle.box_layers.specs.declared.key.Key.{Key}
 use Rattle.box_layers.specs.declared.layer.Layer.{Layer}
 use Rattle.box_layers.specs.Keys.{key_before, key_same}
@@ -40,15 +41,12 @@ rising-at (x ∷ xs) zero (suc j) d a h l = below-at x.key xs j d a.1 (omega ari
 rising-at (x ∷ xs) (suc i) zero d a h l = absurd (omega arith)
 rising-at (x ∷ xs) (suc i) (suc j) d a h l = rising-at xs i j d a.2 (omega arith) (omega arith)
 
-less-or-same : (i j : ℕ) → i ≤ j → (i < j) ⊎ (i ≡ j)
-less-or-same i j h = grind arith
-
 -- what stands before a key is a front of the layers
 pub parted : (xs : List Layer) (key : Key) → AreLayers (map lists_of xs) → (i j : ℕ) (d : Layer) → i ≤ j → j < length xs → key_before (get_or xs j d).key key ≡ true → key_before (get_or xs i d).key key ≡ true
 parted xs key a i j d le l h =
-    elim (less-or-same i j le) [
-      | inl less ↦ key-trans _ _ _ (rising-at xs i j d a less l) h
-      | inr same ↦ ap (λ z. key_before (get_or xs z d).key key) same ∙ h
+    elim (eq-or-lt_of_le {n = i} {m = j} le) [
+      | inl same ↦ ap (λ z. key_before (get_or xs z d).key key) same ∙ h
+      | inr less ↦ key-trans _ _ _ (rising-at xs i j d a less l) h
     ]
 
 pub before-not-same : (j k : Key) → key_before j k ≡ true → key_same j k ≡ false
@@ -84,9 +82,9 @@ pub none-same : (xs : List Layer) (key : Key) (i : ℕ) (d : Layer) → AreLayer
 none-same xs key i d a below from other =
     first-none xs key d (λ k l. (elim (lt-or-ge k i) [
       | inl lt ↦ before-not-same (get_or xs k d).key key (below k lt)
-      | inr ge ↦ (elim (less-or-same i k ge) [
-        | inl less ↦ after-not-same (get_or xs k d).key key (key-trans key (get_or xs i d).key (get_or xs k d).key (else-after (get_or xs i d).key key (from i (omega arith) (omega arith)) (other (omega arith))) (rising-at xs i k d a less l))
-        | inr same ↦ ap (λ z. key_same (get_or xs z d).key key) (sym same) ∙ other (omega arith)
+      | inr ge ↦ (elim (eq-or-lt_of_le {n = i} {m = k} ge) [
+        | inl same ↦ ap (λ z. key_same (get_or xs z d).key key) (sym same) ∙ other (omega arith)
+        | inr less ↦ after-not-same (get_or xs k d).key key (key-trans key (get_or xs i d).key (get_or xs k d).key (else-after (get_or xs i d).key key (from i (omega arith) (omega arith)) (other (omega arith))) (rising-at xs i k d a less l))
       ])
     ]))
 

@@ -4,6 +4,7 @@ use Rattle.machine_core.specs.declared.boxes.Cell.{Cell}
 use Rattle.box_layers.specs.declared.cell_value.CellValue.{CellValue}
 use Rattle.box_layers.specs.Cells.{before, same_cell, IsAfterAll, IsAscending, nth, value_of}
 use Rattle.std.proofs.lemmas.Bool.{cond-true, cond-false}
+use Rattle.std.proofs.Math.Nat.{eq-or-lt_of_le}
 use Rattle.box_layers.proofs.CellOrder.{lt-trans, ge-lt}
 
 pub after-all-at : (c : Cell) (xs : List CellValue) (k : ℕ) → IsAfterAll c xs → k < length xs → before c (nth xs k).cell ≡ true
@@ -18,23 +19,20 @@ ascending-at (x ∷ xs) zero (suc k) h l m = after-all-at x.cell xs k h.0 (omega
 ascending-at (x ∷ xs) (suc j) zero h l m = absurd (omega arith)
 ascending-at (x ∷ xs) (suc j) (suc k) h l m = ascending-at xs j k h.1 (omega arith) (omega arith)
 
-less-or-same : (k n : ℕ) → k ≤ n → (k < n) ⊎ (k ≡ n)
-less-or-same k n h = grind arith
-
 pub seek-up : (xs : List CellValue) (c : Cell) (mid : ℕ) → IsAscending xs → mid < length xs → before (nth xs mid).cell c ≡ true
     → (k : ℕ) → k < mid + 1 → before (nth xs k).cell c ≡ true
 seek-up xs c mid h l b k m =
-    elim (less-or-same k mid (omega arith)) [
-      | inl less ↦ lt-trans _ _ _ (ascending-at xs k mid h less l) b
-      | inr same ↦ ap (λ z. before (nth xs z).cell c) same ∙ b
+    elim (eq-or-lt_of_le {n = k} {m = mid} (omega arith)) [
+      | inl same ↦ ap (λ z. before (nth xs z).cell c) same ∙ b
+      | inr less ↦ lt-trans _ _ _ (ascending-at xs k mid h less l) b
     ]
 
 pub seek-down : (xs : List CellValue) (c : Cell) (mid : ℕ) → IsAscending xs → before (nth xs mid).cell c ≡ false
     → (k : ℕ) → mid ≤ k → k < length xs → before (nth xs k).cell c ≡ false
 seek-down xs c mid h b k m l =
-    elim (less-or-same mid k m) [
-      | inl less ↦ ge-lt (nth xs mid).cell c (nth xs k).cell b (ascending-at xs mid k h less l)
-      | inr same ↦ ap (λ z. before (nth xs z).cell c) (sym same) ∙ b
+    elim (eq-or-lt_of_le {n = mid} {m = k} m) [
+      | inl same ↦ ap (λ z. before (nth xs z).cell c) (sym same) ∙ b
+      | inr less ↦ ge-lt (nth xs mid).cell c (nth xs k).cell b (ascending-at xs mid k h less l)
     ]
 
 pub value-first : (xs : List CellValue) (c : Cell) (i : ℕ) → i < length xs → ((k : ℕ) → k < i → same_cell (nth xs k).cell c ≡ false)

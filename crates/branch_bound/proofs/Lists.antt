@@ -1,6 +1,6 @@
 -- A list that grows at its end keeps its states and its sum.
 use Rattle.std.proofs.Common.{◌≡◌, ℕ, zero, suc, ◌+◌, ◌*◌, ◌%◌, ◌/◌, ◌<◌, ◌≤◌, ◌⊎◌, inl, inr, ℤ, pos, List, [], ◌∷◌, ◌++◌, length, get_or, arith, refl, ap, sym, ◌∙◌, subst, true, Bool, cond, nat_eq, length-append}
-use Rattle.std.proofs.Math.Nat.{mod-lt, mod-eq_of_lt, div-eq_of_lt}
+use Rattle.std.proofs.Math.Nat.{mod-lt, mod-eq_of_lt, div-eq_of_lt, eq-or-lt_of_le}
 use Rattle.std.proofs.lemmas.Nat.{div-add-mod'}
 use Rattle.branch_bound.specs.Walks.{begun, list_of}
 use Rattle.box_layers.proofs.Sound.{block-over, block-within, place-over, place-within}
@@ -104,9 +104,6 @@ same x y h = grind (arith, nat_tests)
 bool-cond : (b x y : Bool) → b ≡ true → cond b x y ≡ x
 bool-cond b x y h = rw h refl
 
-lt-or-eq : (i n : ℕ) → i < n + 1 → (i < n) ⊎ (i ≡ n)
-lt-or-eq i n h = grind arith
-
 pub heads-first : (m : Rules) → IsMachine m → (heads heads' : List ℕ) (i lane h : ℕ) → length heads ≡ begun m i → i % m.decoder.samples ≡ 0 → heads' ≡ heads ++ h ∷ [] → ((b : ℕ) → b < length heads → get_or heads b 0 < m.decoder.heads)
     → ((b : ℕ) → b < length heads → m.decoder.allows (get_or heads b 0) (rule_of first_only b) ≡ true) → h < m.decoder.heads → may_take m first_only i lane h ≡ true → HeadsNow m heads heads' i h
 heads-first m laws heads heads' i lane h n p e fit allow hl takes =
@@ -119,13 +116,13 @@ heads-first m laws heads heads' i lane h n p e fit allow hl takes =
       size = omega arith;
       kept = λ b lt. get-front heads h b lt;
       last = last;
-      fit = λ b lt. (elim (lt-or-eq b (length heads) (omega arith)) [
-        | inl l ↦ (let g = get-front heads h b l in let f = fit b l in omega arith)
-        | inr q ↦ (let g : get_or (heads ++ h ∷ []) b 0 ≡ h = get-last heads h b (sym q) in omega arith)
+      fit = λ b lt. (elim (eq-or-lt_of_le {n = b} {m = length heads} (omega arith)) [
+        | inl q ↦ (let g : get_or (heads ++ h ∷ []) b 0 ≡ h = get-last heads h b (sym q) in omega arith)
+        | inr l ↦ (let g = get-front heads h b l in let f = fit b l in omega arith)
       ]);
-      allowed = λ b lt. (elim (lt-or-eq b (length heads) (omega arith)) [
-        | inl l ↦ ap (λ z. m.decoder.allows z (rule_of first_only b)) (get-front heads h b l) ∙ allow b l
-        | inr q ↦ ap (λ z. m.decoder.allows z (rule_of first_only b)) (get-last heads h b (sym q)) ∙ (ap (λ z. m.decoder.allows h (rule_of first_only z)) (q ∙ at) ∙ ok)
+      allowed = λ b lt. (elim (eq-or-lt_of_le {n = b} {m = length heads} (omega arith)) [
+        | inl q ↦ ap (λ z. m.decoder.allows z (rule_of first_only b)) (get-last heads h b (sym q)) ∙ (ap (λ z. m.decoder.allows h (rule_of first_only z)) (q ∙ at) ∙ ok)
+        | inr l ↦ ap (λ z. m.decoder.allows z (rule_of first_only b)) (get-front heads h b l) ∙ allow b l
       ]);
     })
 

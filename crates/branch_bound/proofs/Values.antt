@@ -3,6 +3,7 @@ use Rattle.std.proofs.Common.{◌≡◌, ℕ, zero, suc, ◌+◌, ◌-◌, ◌*�
 use Rattle.std.specs.Prelude.{reverse}
 use Rattle.std.proofs.lemmas.List.{get_or-reverse, length-reverse, get_or-map, length-map}
 use Rattle.std.proofs.lemmas.List.Elements.{Contains-get_or}
+use Rattle.std.proofs.Math.Nat.{eq-or-lt_of_le}
 use Rattle.open_cells.specs.declared.node.Node.{Node}
 use Rattle.open_cells.specs.Nodes.{IsRising, rank}
 use Rattle.open_cells.proofs.Order.{rising-nil}
@@ -41,9 +42,6 @@ rising-map f same xs r = record {
       omega arith);
 }
 
-lt-or-eq : (i n : ℕ) → i < n + 1 → (i < n) ⊎ (i ≡ n)
-lt-or-eq i n h = grind arith
-
 pub backed-starts : (m : Rules) (targets : List ℤ) (blocks level most : ℕ) (fronts layers : List (List Node)) (n : ℕ) → layers ≡ [] → AreBacked m targets blocks level most fronts layers n 0
 backed-starts m targets blocks level most fronts layers n e = record { size = ap (length {A = List Node}) e; each = λ j h. absurd (omega arith); rising = λ j h. absurd (omega arith) }
 
@@ -60,13 +58,13 @@ backed-more m targets blocks level most fronts old new v n k i next front b e ie
     let up : IsRising v = subst (λ (z : List Node). IsRising z) (sym ve) (rising-map (valued m targets blocks level most i next) (λ x. refl) front rise) in
     subst (λ (z : List (List Node)). AreBacked m targets blocks level most fronts z n (k + 1)) (sym e) (record {
       size = (let l : length (old ++ v ∷ []) ≡ length old + 1 = length-append old (v ∷ []) in omega arith);
-      each = λ j h. (elim (lt-or-eq j k h) [
-        | inl lt ↦ nodes-front old v j (omega arith) ∙ (b.each j lt ∙ ap (λ (z : List Node). map (valued m targets blocks level most (n - suc j) z) (nodes_at fronts (n - suc j))) (sym (prior-kept old v j (omega arith))))
-        | inr q ↦ subst (λ (z : ℕ). nodes_at (old ++ v ∷ []) z ≡ map (valued m targets blocks level most (n - suc z) (prior (old ++ v ∷ []) z)) (nodes_at fronts (n - suc z))) (sym q) here
+      each = λ j h. (elim (eq-or-lt_of_le {n = j} {m = k} (omega arith)) [
+        | inl q ↦ subst (λ (z : ℕ). nodes_at (old ++ v ∷ []) z ≡ map (valued m targets blocks level most (n - suc z) (prior (old ++ v ∷ []) z)) (nodes_at fronts (n - suc z))) (sym q) here
+        | inr lt ↦ nodes-front old v j (omega arith) ∙ (b.each j lt ∙ ap (λ (z : List Node). map (valued m targets blocks level most (n - suc j) z) (nodes_at fronts (n - suc j))) (sym (prior-kept old v j (omega arith))))
       ]);
-      rising = λ j h. (elim (lt-or-eq j k h) [
-        | inl lt ↦ subst (λ (z : List Node). IsRising z) (sym (nodes-front old v j (omega arith))) (b.rising j lt)
-        | inr q ↦ subst (λ (z : List Node). IsRising z) (sym (ap (nodes_at (old ++ v ∷ [])) q ∙ last)) up
+      rising = λ j h. (elim (eq-or-lt_of_le {n = j} {m = k} (omega arith)) [
+        | inl q ↦ subst (λ (z : List Node). IsRising z) (sym (ap (nodes_at (old ++ v ∷ [])) q ∙ last)) up
+        | inr lt ↦ subst (λ (z : List Node). IsRising z) (sym (nodes-front old v j (omega arith))) (b.rising j lt)
       ]);
     })
 

@@ -3,6 +3,7 @@ use Rattle.std.proofs.Common.{◌≡◌, ℕ, ◌+◌, ◌<◌, ◌≤◌, ◌�
 use Rattle.std.specs.Prelude.{◌+ℤ◌, ◌-ℤ◌, ◌≤ℤ◌, unsigned_abs}
 use Rattle.std.proofs.lemmas.Int.{ints}
 use Rattle.std.specs.List.{Contains}
+use Rattle.std.proofs.Math.Nat.{eq-or-lt_of_le}
 use Rattle.open_cells.specs.declared.node.Node.{Node}
 use Rattle.open_cells.specs.Nodes.{HasNode, Keeps, IsAdded}
 use Rattle.open_cells.proofs.Merging.{keeps-self, keeps-trans, has-kept}
@@ -24,9 +25,6 @@ pub record Rowed (old new : List Node) (lane : ℕ) (a low high : ℤ) (cost y :
 
 pub rowed-starts : (old : List Node) (lane : ℕ) (a low high : ℤ) (cost : ℕ) → Rowed old old lane a low high cost 0
 rowed-starts old lane a low high cost = record { kept = keeps-self old; covers = λ k h. absurd (omega arith); from = λ x c. inl c }
-
-lt-or-eq : (i n : ℕ) → i < n + 1 → (i < n) ⊎ (i ≡ n)
-lt-or-eq i n h = grind arith
 
 in-row-low : (low high : ℤ) (y : ℕ) → low ≤ℤ (low +ℤ pos y)
 in-row-low low high y = grind (arith, ints)
@@ -58,9 +56,9 @@ pub rowed-more : (old mid new : List Node) (lane : ℕ) (a low high : ℤ) (cost
     → ((x : Node) → Contains new x → Contains mid x ⊎ (record { lane = lane; cell = cell a b; cost = cost } ≡ x)) → Rowed old new lane a low high cost (y + 1)
 rowed-more old mid new lane a low high cost y b o h e r added g = record {
   kept = keeps-trans old mid new r.kept added.kept;
-  covers = λ k l. (elim (lt-or-eq k y l) [
-    | inl lt ↦ has-kept mid new lane (cell a (low +ℤ pos k)) cost added.kept (r.covers k lt)
-    | inr eq ↦ subst (λ (z : ℤ). HasNode new lane (cell a z) cost) (e ∙ ap (λ z. low +ℤ pos z) (sym eq)) added.put
+  covers = λ k l. (elim (eq-or-lt_of_le {n = k} {m = y} (omega arith)) [
+    | inl eq ↦ subst (λ (z : ℤ). HasNode new lane (cell a z) cost) (e ∙ ap (λ z. low +ℤ pos z) (sym eq)) added.put
+    | inr lt ↦ has-kept mid new lane (cell a (low +ℤ pos k)) cost added.kept (r.covers k lt)
   ]);
   from = row-from old mid new lane a low high cost y b o h e r.from g;
 }
@@ -90,9 +88,9 @@ pub boxed-more : (old mid new : List Node) (lane : ℕ) (low high : Cell) (cost 
     → IsNewOrOld (cell a low.b) (cell a high.b) lane cost mid new → Boxed old new lane low high cost (x + 1)
 boxed-more old mid new lane low high cost x a o h e r keeps row g = record {
   kept = keeps-trans old mid new r.kept keeps;
-  covers = λ k n l p. (elim (lt-or-eq k x l) [
-    | inl lt ↦ has-kept mid new lane (cell (low.a +ℤ pos k) (low.b +ℤ pos n)) cost keeps (r.covers k n lt p)
-    | inr eq ↦ subst (λ (z : ℤ). HasNode new lane (cell z (low.b +ℤ pos n)) cost) (e ∙ ap (λ z. low.a +ℤ pos z) (sym eq)) (row n p)
+  covers = λ k n l p. (elim (eq-or-lt_of_le {n = k} {m = x} (omega arith)) [
+    | inl eq ↦ subst (λ (z : ℤ). HasNode new lane (cell z (low.b +ℤ pos n)) cost) (e ∙ ap (λ z. low.a +ℤ pos z) (sym eq)) (row n p)
+    | inr lt ↦ has-kept mid new lane (cell (low.a +ℤ pos k) (low.b +ℤ pos n)) cost keeps (r.covers k n lt p)
   ]);
   from = box-from old mid new lane low high cost x a o h e r.from g;
 }

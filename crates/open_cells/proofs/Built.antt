@@ -2,7 +2,7 @@
 use Rattle.std.proofs.Common.{◌≡◌, ℕ, zero, suc, ◌+◌, ◌-◌, ◌*◌, ◌%◌, ◌/◌, ◌<◌, ◌≤◌, ◌⊎◌, inl, inr, ℤ, List, [], ◌∷◌, ◌++◌, length, get_or, arith, refl, ap, sym, ◌∙◌, subst, min, cond, length-append}
 use Rattle.std.specs.Prelude.{nat_lt, nat_eq}
 use Rattle.std.specs.List.{Contains}
-use Rattle.std.proofs.Math.Nat.{mul-pos}
+use Rattle.std.proofs.Math.Nat.{mul-pos, eq-or-lt_of_le}
 use Rattle.std.proofs.lemmas.Bool.{cond-true, cond-false, lt-ltb, le-ltb, eq-eqb, ne_eqb}
 use Rattle.open_cells.specs.declared.node.Node.{Node}
 use Rattle.open_cells.specs.Nodes.{IsRising}
@@ -64,9 +64,6 @@ count-grows f n (suc k) =
 below-or : (i n : ℕ) → (i < n) ⊎ ((i ≡ n) ⊎ (n < i))
 below-or i n = grind arith
 
-lt-or-eq : (i n : ℕ) → i < n + 1 → (i < n) ⊎ (i ≡ n)
-lt-or-eq i n h = grind arith
-
 pub at-last : (xs : List (List Node)) (v : List Node) (n : ℕ) → length xs ≡ n → nodes_at (xs ++ v ∷ []) n ≡ v
 at-last xs v n e = ap (nodes_at (xs ++ v ∷ [])) (sym e) ∙ nodes-last xs v
 
@@ -92,9 +89,9 @@ built-more m targets blocks level most share old new v n i count more room b e i
     let ci = b.count_is in let fw = b.few in
     subst (λ (z : List (List Node)). IsBuilt m targets blocks level most share z (n + 1) more) (sym e) (record {
       size = (let l : length (old ++ v ∷ []) ≡ length old + 1 = length-append old (v ∷ []) in omega arith);
-      each = λ j h. (elim (lt-or-eq j n h) [
-        | inl lt ↦ subst (λ (z : List Node). IsFront m targets blocks level most j z) (sym (nodes-front old v j (omega arith))) (b.each j lt)
-        | inr q ↦ subst (λ (k : ℕ). IsFront m targets blocks level most k (nodes_at (old ++ v ∷ []) k)) (sym q) (subst (λ (z : List Node). IsFront m targets blocks level most n z) (sym last) fn)
+      each = λ j h. (elim (eq-or-lt_of_le {n = j} {m = n} (omega arith)) [
+        | inl q ↦ subst (λ (k : ℕ). IsFront m targets blocks level most k (nodes_at (old ++ v ∷ []) k)) (sym q) (subst (λ (z : List Node). IsFront m targets blocks level most n z) (sym last) fn)
+        | inr lt ↦ subst (λ (z : List Node). IsFront m targets blocks level most j z) (sym (nodes-front old v j (omega arith))) (b.each j lt)
       ]);
       count_is = omega arith;
       few = omega arith;

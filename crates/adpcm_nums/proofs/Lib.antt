@@ -4,6 +4,7 @@ pub mod LeastValueLaws
 pub mod RangeSumLaws
 pub mod FirstLaws
 pub mod OrderLaws
+pub mod ProductLaws
 pub mod NearestLaws
 pub mod SpanLaws
 pub mod OutcomeLaws

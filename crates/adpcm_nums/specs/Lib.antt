@@ -5,6 +5,7 @@ pub mod RangeSum
 pub mod First
 pub mod Outcome
 pub mod Sample
+pub mod Ranges
 pub mod Round
 pub mod Nearest
 pub mod Nibbles

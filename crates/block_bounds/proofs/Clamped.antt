@@ -3,12 +3,11 @@ use Rattle.std.proofs.Common.{◌≡◌, ◌⊎◌, ℕ, ◌<◌, ◌^◌, arith
 use Rattle.std.specs.Prelude.{ℤ, pos, negsuc, ◌+ℤ◌, ◌-ℤ◌, ◌*ℤ◌, ◌≤ℤ◌, get_or}
 use Rattle.std.proofs.lemmas.Int.{ints}
 use Rattle.adpcm_nums.specs.Sample.{IsSample}
-use Rattle.row_bound.specs.Ranges.{IsWithin}
+use Rattle.adpcm_nums.specs.Ranges.{IsWithin}
 use Rattle.row_bound.specs.declared.row.Row.{Row as ErrorRow}
 use Rattle.row_bound.specs.Rows.{Fits, IsMoved}
 use Rattle.row_bound.proofs.Clamped.{high-fits, low-fits}
-use Rattle.row_bound.proofs.Orders.{in-order}
-use Rattle.row_bound.proofs.Products.{mul-add, mul-sub, mul-swap}
+use Rattle.adpcm_nums.proofs.ProductLaws.{mul-add, mul-sub, mul-swap, in-order}
 use Rattle.window_floor.specs.Windows.{Windows}
 use Rattle.block_bounds.specs.Covers.{IsOverRow, IsUnderRow}
 use Rattle.block_bounds.proofs.RowSums.{sum-as}

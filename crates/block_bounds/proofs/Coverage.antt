@@ -10,8 +10,7 @@ use Rattle.row_bound.specs.Rows.{Fits, IsMoved}
 use Rattle.row_bound.specs.Paths.{IsChoice, moved, first, second, Path, done, by_layer}
 use Rattle.row_bound.specs.Ladder.{IsLadder}
 use Rattle.row_bound.proofs.MovedRows.{moved-exists}
-use Rattle.row_bound.proofs.Orders.{in-order}
-use Rattle.row_bound.proofs.Products.{mul-add}
+use Rattle.adpcm_nums.proofs.ProductLaws.{mul-add, in-order}
 use Rattle.window_floor.specs.Row.{Row}
 use Rattle.window_floor.specs.Miss.{rho_of}
 use Rattle.window_floor.specs.Outcome.{IsWrap, none as no_wrap}

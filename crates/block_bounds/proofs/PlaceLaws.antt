@@ -1,9 +1,7 @@
 -- The numbers of a place's layer.
-use Rattle.std.proofs.Common.{◌≡◌, arith, ap, sym, ◌∙◌, w64, to_z, of_z}
+use Rattle.std.proofs.Common.{◌≡◌, arith, ap, ◌∙◌, w64, to_z, of_z}
 use Rattle.std.specs.Prelude.{ℤ, pos, ◌-ℤ◌, ◌*ℤ◌, ◌≤ℤ◌, unsigned_abs}
 use Rattle.std.proofs.lemmas.Int.{ints}
-use Rattle.row_bound.specs.declared.row.Row.{Row as ErrorRow}
-use Rattle.block_bounds.specs.Covers.{IsKnownRow}
 
 -- an end of the interval, as the code holds its parts
 pub end-is : (e t s s' x x' q q' r y : ℤ) → t ≡ e → e ≡ s' *ℤ x' -ℤ q' → s' ≡ s → x' ≡ x → q' ≡ q → q ≡ r → x ≡ y → t ≡ s *ℤ y -ℤ r
@@ -23,6 +21,6 @@ difference-held b e bl bh el eh =
     let se : to_z w64 (of_z w64 e) ≡ e = omega (arith, ints, el, eh) in
     rw (sb, se) (omega (arith, ints, bl, bh, el, eh))
 
--- a known row's numbers, as the code holds them
-pub known-as : (s y x s' y' x' : ℤ) (base row : ErrorRow) → s' ≡ s → y' ≡ y → x' ≡ x → IsKnownRow s' y' x' base row → IsKnownRow s y x base row
-known-as s y x s' y' x' base row es ey ex k = rw (sym es, sym ey, sym ex) k
+-- an error, as the code holds its numbers
+pub error-as : (s y x s' y' x' e : ℤ) → s' ≡ s → y' ≡ y → x' ≡ x → e ≡ s' *ℤ y' -ℤ x' → e ≡ s *ℤ y -ℤ x
+error-as s y x s' y' x' e es ey ex is = is ∙ (ap (λ t. t *ℤ y' -ℤ x') es ∙ (ap (λ t. s *ℤ t -ℤ x') ey ∙ ap (λ t. s *ℤ y -ℤ t) ex))

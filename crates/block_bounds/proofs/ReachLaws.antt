@@ -3,7 +3,7 @@ use Rattle.std.proofs.Common.{◌≡◌, arith, ap, ◌∙◌}
 use Rattle.std.specs.Prelude.{ℤ, pos, negsuc, ◌-ℤ◌, ◌*ℤ◌, ◌≤ℤ◌}
 use Rattle.std.proofs.Math.IntN.{*ℤ-zero}
 use Rattle.std.proofs.lemmas.Int.{ints}
-use Rattle.row_bound.proofs.Orders.{in-order}
+use Rattle.adpcm_nums.proofs.ProductLaws.{in-order}
 
 -- the highest level of 16 bits
 pub top-size : (step n : ℤ) → pos 1 ≤ℤ step → step ≤ℤ pos 4096 → pos 0 ≤ℤ n → n ≤ℤ pos 7 → (pos 0 ≤ℤ (step *ℤ n)) × ((step *ℤ n) ≤ℤ pos 28672)

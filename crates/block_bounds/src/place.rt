@@ -1,4 +1,4 @@
-ghost use Rattle.std.specs.Prelude.{◌≡◌, ◌⊎◌, ◌≤◌, ◌^◌, ◌+◌, ℤ, List, pos, negsuc, ◌*ℤ◌, ◌-ℤ◌, ◌≤ℤ◌, false};
+ghost use Rattle.std.specs.Prelude.{◌≡◌, ◌≤◌, ◌<◌, ◌^◌, ℤ, List, pos, negsuc, ◌*ℤ◌, ◌-ℤ◌, ◌≤ℤ◌, get_or, false};
 ghost use Rattle.adpcm_nums.specs.Sample.{IsSample};
 ghost use Rattle.window_floor.specs.Numbers.{StandFor, windows_of};
 ghost use Rattle.block_bounds.specs.Covers.{Covers, IsKnownRow, IsOverRow, IsUnderRow};
@@ -53,17 +53,16 @@ fn past(w: Window, end: i64, reach: i32, x: i32) -> i64
     end - scaled(w.d, error(w.scale, reach, x))
 }
 
-/// The row of an output that clamping leaves: its error is known, and between `low` and `high` is what the base row's factors
+/// The row of an output that clamping leaves, at one end or the other: its error is known, and between `low` and `high` is what the base row's factors
 /// make of the errors before.
-fn known_row(scale: i64, y: i32, x: i32, base: Row, low: i64, high: i64) -> Row
-    requires scale { (scale ≡ pos 1) ⊎ (scale ≡ pos 2) }
-    requires y { IsSample y }
+fn known_row(b: BlockWindows, end: usize, x: i32, base: Row, low: i64, high: i64) -> Row
+    requires end { end < 2 }
     requires x { IsSample x }
     requires low_small { negsuc (2 ^ 26) ≤ℤ low }
     requires low_great { low ≤ℤ pos (2 ^ 26) }
     requires high_small { negsuc (2 ^ 26) ≤ℤ high }
     requires high_great { high ≤ℤ pos (2 ^ 26) }
-    ensures known { IsKnownRow scale y x base result }
+    ensures known { IsKnownRow b.row.scale (get_or b.ends end (pos 0)) x base result }
     ensures low { result.low ≡ low }
     ensures high { result.high ≡ high }
     ensures weight { result.weight ≡ base.weight }
@@ -76,7 +75,7 @@ fn known_row(scale: i64, y: i32, x: i32, base: Row, low: i64, high: i64) -> Row
         high,
         weight: base.weight,
         known: true,
-        out: error(scale, y, x),
+        out: error(b.row.scale, b.ends[end], x),
     }
 }
 
@@ -90,7 +89,7 @@ fn over_row(b: BlockWindows, x: i32, base: Row) -> Row
     ensures weight { result.weight ≡ base.weight }
 {
     let high = past(b.row, base.high, upper_reach(b.levels), x);
-    known_row(b.row.scale, b.ends[0], x, base, -FAR, high)
+    known_row(b, 0, x, base, -FAR, high)
 }
 
 /// The row of the output that clamping leaves at the lower end.
@@ -103,7 +102,7 @@ fn under_row(b: BlockWindows, x: i32, base: Row) -> Row
     ensures weight { result.weight ≡ base.weight }
 {
     let low = past(b.row, base.low, lower_reach(b.levels), x);
-    known_row(b.row.scale, b.ends[1], x, base, low, FAR)
+    known_row(b, 1, x, base, low, FAR)
 }
 
 /// The layer of a place, from the targets of the two places before and of its own.

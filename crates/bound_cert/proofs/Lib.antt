@@ -1,4 +1,5 @@
 pub mod ByNumber
+pub mod CellPlaces
 pub mod Scans
 pub mod PlaceSteps
 pub mod Whole

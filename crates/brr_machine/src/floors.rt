@@ -1,4 +1,4 @@
-ghost use Rattle.std.specs.Prelude.{◌≡◌, ◌≤◌, ◌<◌, ◌*◌, ◌-◌, ◌^◌, ℕ, ℤ, List, length, get_or, min};
+ghost use Rattle.std.specs.Prelude.{◌≡◌, ◌≤◌, ◌<◌, ◌*◌, ◌-◌, ◌^◌, ℕ, ℤ, List, length, get_or};
 ghost use Rattle.adpcm_nums.specs.Sample.{AreSamples};
 ghost use Rattle.machine_core.specs.declared.state.State.{State};
 ghost use Rattle.machine_core.specs.Decoder.{miss};
@@ -36,17 +36,6 @@ pub(crate) fn fill_floors(head: u32, targets: &[i32], table: &mut [u64])
     ensures floors { (p : ℕ) → p ≤ 16 → get_or table.new p 0 ≡ brr_floor head p targets.now }
 {
     window_floor::fill_floors(windows(head), targets, table);
-}
-
-/// The floor under a block under a head where that is less than `most`, and else some number that is at least `most`.
-#[tactic(auto, unfolding(crate::specs::Floors::brr_floor))]
-pub(crate) fn floor_below(head: u32, targets: &[i32], most: u64) -> u64
-    requires head { head < 64 }
-    requires count { length targets.now ≡ 16 }
-    requires targets { AreSamples targets.now }
-    ensures { min result most ≡ min (brr_floor head 0 targets.now) most }
-{
-    window_floor::floor_below(windows(head), targets, most)
 }
 
 /// The floor from a place on is no more than what any codes cost there, whatever the state.

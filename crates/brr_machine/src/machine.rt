@@ -7,12 +7,12 @@ ghost use Rattle.brr_machine.specs.Laws.Boxed.{brr_is_boxed};
 
 use crate::floors::{fill_floors, windows};
 use crate::image::image;
-use crate::least::{allows_head, least_floor};
+use crate::least::Heads;
 use crate::nearest::output_cost;
 use crate::step::brr_output;
 use crate::taken::{codes_after, taken_from};
 use adpcm_nums::Span;
-use linear_machine::LinearMachine;
+use linear_machine::{HeadFloors, LinearMachine, least_floor};
 use machine_core::{Bx, Cell, HeadRule, Kind, Machine, Pieces, State, Taken, cell_box, cell_of};
 use window_floor::BlockWindows;
 
@@ -42,7 +42,7 @@ impl Machine for Brr {
     }
 
     fn allows(&self, head: u32, rule: HeadRule) -> bool {
-        allows_head(head, rule)
+        Heads.allows(head, rule)
     }
 
     // From shift 13 on the shift does not count.
@@ -71,7 +71,7 @@ impl Machine for Brr {
     }
 
     fn block_floor(&self, rule: HeadRule, targets: &[i32]) -> u64 {
-        least_floor(rule, targets)
+        least_floor(&Heads, rule, targets)
     }
 
     fn floor_len(&self) -> u32 {

@@ -4,8 +4,10 @@
 
 mod codes;
 mod laws;
+mod least;
 mod machine;
 
 pub use codes::{CodeCosts, least_of_all, least_of_two};
 pub use laws::{floors_hold, outputs_follow};
+pub use least::{HeadFloors, least_floor};
 pub use machine::LinearMachine;

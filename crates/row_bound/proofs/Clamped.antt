@@ -5,7 +5,7 @@ use Rattle.std.proofs.Math.IntN.{zero-*ℤ}
 use Rattle.std.proofs.lemmas.Int.{ints}
 use Rattle.row_bound.specs.declared.row.Row.{Row}
 use Rattle.row_bound.specs.Rows.{Fits}
-use Rattle.row_bound.proofs.Orders.{in-order}
+use Rattle.adpcm_nums.proofs.ProductLaws.{in-order}
 
 none : (w : Row) (z : ℤ) → w.d ≡ pos 0 → w.d *ℤ z ≡ pos 0
 none w z e = rw e (zero-*ℤ z)

@@ -6,7 +6,8 @@ use Rattle.std.proofs.lemmas.Int.{ints}
 use Rattle.row_bound.specs.declared.row.Row.{Row}
 use Rattle.adpcm_nums.specs.Nums.{square_of}
 use Rattle.row_bound.specs.Bound.{loss, gain, factor, bound, Outward}
-use Rattle.row_bound.proofs.Orders.{in-order, against}
+use Rattle.adpcm_nums.proofs.ProductLaws.{in-order}
+use Rattle.row_bound.proofs.Orders.{against}
 
 -- the less of two ends that both rise
 less-of : (a b c d : ℤ) → a ≤ℤ c → b ≤ℤ d → int_min a b ≤ℤ int_min c d

@@ -10,8 +10,8 @@ use Rattle.row_bound.specs.declared.layer.Layer.{Layer}
 use Rattle.row_bound.specs.Rows.{At, Fits}
 use Rattle.row_bound.specs.Paths.{Path, by_row, Owes}
 use Rattle.row_bound.specs.Bound.{loss, gain, factor, bound}
-use Rattle.row_bound.proofs.Products.{mul-sub, mul-swap}
-use Rattle.row_bound.proofs.Orders.{in-order, against, sub-mul}
+use Rattle.adpcm_nums.proofs.ProductLaws.{mul-sub, mul-swap, in-order}
+use Rattle.row_bound.proofs.Orders.{against, sub-mul}
 use Rattle.row_bound.proofs.Squares.{free-share}
 
 both : (b : Bool) → (b ≡ true) ⊎ (b ≡ false)

@@ -1,4 +1,3 @@
-pub mod Products
 pub mod Orders
 pub mod Squares
 pub mod DualLemma

@@ -4,7 +4,7 @@ use Rattle.std.specs.Prelude.{ℤ, pos, negsuc, ◌+ℤ◌, ◌≤ℤ◌, List, 
 use Rattle.std.proofs.lemmas.Int.{ints}
 use Rattle.row_bound.specs.declared.row.Row.{Row}
 use Rattle.row_bound.specs.declared.layer.Layer.{Layer}
-use Rattle.row_bound.specs.Ranges.{IsWithin}
+use Rattle.adpcm_nums.specs.Ranges.{IsWithin}
 use Rattle.row_bound.specs.Rows.{IsMoved}
 use Rattle.row_bound.specs.Ladder.{IsLadder}
 

@@ -3,14 +3,14 @@ use Rattle.std.proofs.Common.{◌≡◌, ℕ, zero, suc, ◌+◌, ◌-◌, ◌*�
 use Rattle.std.specs.Prelude.{ℤ, pos, ◌*ℤ◌, List, [], ◌∷◌, length, drop, take, get_or}
 use Rattle.std.proofs.Math.IntN.{zero-*ℤ}
 use Rattle.std.proofs.lemmas.Int.{ints}
-use Rattle.std.proofs.lemmas.List.{length-drop, take_all}
+use Rattle.std.proofs.lemmas.List.{length-drop, take_all, drop_more}
 use Rattle.adpcm_nums.specs.Nums.{square_of}
 use Rattle.row_bound.specs.declared.row.Row.{Row}
 use Rattle.row_bound.specs.declared.layer.Layer.{Layer}
 use Rattle.row_bound.specs.Rows.{Fits}
-use Rattle.row_bound.specs.Flat.{IsOlderFree, IsLastFree}
+use Rattle.row_bound.specs.Flat.{IsOlderFree, IsLastFree, IsAlone}
 use Rattle.row_bound.specs.Paths.{IsChoice, moved, first, second, Path, done, by_layer, Owes, OwesFrom}
-use Rattle.row_bound.proofs.BoundLaws.{drop-at, drop-end}
+use Rattle.row_bound.proofs.BoundLaws.{drop-at, drop-end, next}
 
 -- a layer's rows weigh the same
 weighs : (steps : List ℤ) (layer : Layer) (w : Row) → IsChoice steps layer w → w.weight ≡ layer.base.weight
@@ -83,8 +83,8 @@ no-step steps v u here following rest n older last free owes x y _ (by_layer _ _
 longer : (steps : List ℤ) (a : Layer) (rest : List Layer) (n : ℕ) → Owes steps rest n → Owes steps (a ∷ rest) n
 longer steps a rest n owes x y _ (by_layer _ _ _ _ z c w i f path) = let o = owes z x c path in omega (arith, o)
 
-at : (ls : List Layer) (i j : ℕ) (x : Layer) → suc i ≡ j → i < length ls → x ≡ get_or ls i x → drop i ls ≡ x ∷ drop j ls
-at ls i j x e h is = drop-at ls i x h is ∙ ap (λ k. x ∷ drop k ls) e
+at : (ls : List Layer) (i j : ℕ) (any : Layer) → suc i ≡ j → i < length ls → drop i ls ≡ get_or ls i any ∷ drop j ls
+at ls i j any e h = drop_more ls i any h ∙ ap (λ k. get_or ls i any ∷ drop k ls) (sym (next i) ∙ e)
 
 end-next : (steps : List ℤ) (ls : List Layer) (i n : ℕ) → i < length ls → Owes steps (drop (suc i) ls) n → Owes steps (drop i ls) n
 end-next steps [] i n h owes = absurd (omega (arith, h))
@@ -96,34 +96,57 @@ end-owes steps ls i j n e h owes =
     let d : drop (suc i) ls ≡ drop j ls = ap (λ k. drop k ls) e in
     end-next steps ls i n h (subst (λ (l : List Layer). Owes steps l n) (sym d) owes)
 
-pub two-places : (steps : List ℤ) (v u : Row) (ls : List Layer) (j n : ℕ) (a b : Layer) → a ≡ get_or ls (j - 2) a → b ≡ get_or ls (j - 1) b → v.weight ≡ a.base.weight → u.weight ≡ b.base.weight
+two-places : (steps : List ℤ) (v u : Row) (ls : List Layer) (j n : ℕ) (any : Layer) → v.weight ≡ (get_or ls (j - 2) any).base.weight → u.weight ≡ (get_or ls (j - 1) any).base.weight
     → 2 ≤ j → j ≤ length ls → OwesFrom steps v u [] (drop j ls) n → Owes steps (drop (j - 2) ls) n
-two-places steps v u ls j n a b ea eb hv hu low high owes =
-    let one = at ls (j - 2) (j - 1) a (omega (arith, low)) (omega (arith, low, high)) ea in
-    let two = at ls (j - 1) j b (omega (arith, low)) (omega (arith, low, high)) eb in
+two-places steps v u ls j n any hv hu low high owes =
+    let a = get_or ls (j - 2) any in
+    let b = get_or ls (j - 1) any in
+    let one = at ls (j - 2) (j - 1) any (omega (arith, low)) (omega (arith, low, high)) in
+    let two = at ls (j - 1) j any (omega (arith, low)) (omega (arith, low, high)) in
     subst (λ (l : List Layer). Owes steps l n) (sym (one ∙ ap (λ l. a ∷ l) two)) (two-steps steps v u a b (drop j ls) n hv hu owes)
 
-pub one-place : (steps : List ℤ) (v u : Row) (ls : List Layer) (j n : ℕ) (b here : Layer) → b ≡ get_or ls (j - 1) b → here ≡ get_or ls j here → u.weight ≡ b.base.weight → IsOlderFree here
+one-place : (steps : List ℤ) (v u : Row) (ls : List Layer) (j n : ℕ) (here : Layer) → here ≡ get_or ls j here → u.weight ≡ (get_or ls (j - 1) here).base.weight → IsOlderFree here
     → 1 ≤ j → j < length ls → OwesFrom steps v u [] (drop j ls) n → Owes steps (drop (j - 1) ls) n
-one-place steps v u ls j n b here eb eh hu free low high owes =
-    let one = at ls (j - 1) j b (omega (arith, low)) (omega (arith, low, high)) eb in
-    let two = at ls j (suc j) here refl high eh in
+one-place steps v u ls j n here eh hu free low high owes =
+    let b = get_or ls (j - 1) here in
+    let one = at ls (j - 1) j here (omega (arith, low)) (omega (arith, low, high)) in
+    let two = drop-at ls j here high eh in
     subst (λ (l : List Layer). Owes steps l n) (sym (one ∙ ap (λ l. b ∷ l) two)) (one-step steps v u b here (drop (suc j) ls) n hu free (subst (λ (l : List Layer). OwesFrom steps v u [] l n) two owes))
 
-pub no-place : (steps : List ℤ) (v u : Row) (ls : List Layer) (j n : ℕ) (here following : Layer) → here ≡ get_or ls j here → (j + 1 < length ls → following ≡ get_or ls (j + 1) following) → IsOlderFree here → IsLastFree here → IsOlderFree following
+no-place : (steps : List ℤ) (v u : Row) (ls : List Layer) (j n : ℕ) (here following : Layer) → here ≡ get_or ls j here → (j + 1 < length ls → following ≡ get_or ls (j + 1) following) → IsOlderFree here → IsLastFree here → IsOlderFree following
     → j < length ls → OwesFrom steps v u [] (drop j ls) n → Owes steps (drop j ls) n
 no-place steps v u ls j n here following eh ef older last free high owes =
-    let one = at ls j (j + 1) here (omega arith) high eh in
+    let one = drop-at ls j here high eh ∙ ap (λ k. here ∷ drop k ls) (next j) in
     let c : (j + 1 < length ls) ⊎ (length ls ≤ j + 1) = grind arith in
     elim c [
       | inl more ↦ (
-          let two = at ls (j + 1) (j + 2) following (omega arith) more (ef more) in
-          let e = one ∙ ap (λ l. here ∷ l) two in
-          subst (λ (l : List Layer). Owes steps l n) (sym e) (no-step steps v u here following (drop (j + 2) ls) n older last free (subst (λ (l : List Layer). OwesFrom steps v u [] l n) e owes)))
+          let e = one ∙ ap (λ l. here ∷ l) (drop-at ls (j + 1) following more (ef more)) in
+          subst (λ (l : List Layer). Owes steps l n) (sym e) (no-step steps v u here following (drop (suc (j + 1)) ls) n older last free (subst (λ (l : List Layer). OwesFrom steps v u [] l n) e owes)))
       | inr end ↦ (
           let e = one ∙ ap (λ l. here ∷ l) (drop-end ls (j + 1) end) in
           subst (λ (l : List Layer). Owes steps l n) (sym e) (no-step-last steps v u here n older last (subst (λ (l : List Layer). OwesFrom steps v u [] l n) e owes)))
     ]
 
+pub place-as : (steps : List ℤ) (layers : List Layer) (i j n : ℕ) → i ≡ j → Owes steps (drop i layers) n → Owes steps (drop j layers) n
+place-as steps layers i j n e o = subst (λ (k : ℕ). Owes steps (drop k layers) n) e o
+
+-- a search is charged to the places before it that its rows ask for
+pub charged : (steps : List ℤ) (v u : Row) (ls : List Layer) (j taps n : ℕ) (here following : Layer) → here ≡ get_or ls j here → (j + 1 < length ls → following ≡ get_or ls (j + 1) following) → IsAlone here following taps
+    → (2 ≤ taps → (any : Layer) → v.weight ≡ (get_or ls (j - 2) any).base.weight) → (1 ≤ taps → (any : Layer) → u.weight ≡ (get_or ls (j - 1) any).base.weight) → taps ≤ 2 → taps ≤ j → j < length ls
+    → OwesFrom steps v u [] (drop j ls) n → Owes steps (drop (j - taps) ls) n
+charged steps v u ls j zero n here following eh ef alone hv hu most low high owes =
+    place-as steps ls j (j - 0) n (omega arith) (no-place steps v u ls j n here following eh ef (alone.older (omega arith)) (alone.last (omega arith)) (alone.next (omega arith)) high owes)
+charged steps v u ls j (suc zero) n here following eh ef alone hv hu most low high owes =
+    one-place steps v u ls j n here eh (hu (omega arith) here) (alone.older (omega arith)) low high owes
+charged steps v u ls j (suc (suc zero)) n here following eh ef alone hv hu most low high owes =
+    two-places steps v u ls j n here (hv (omega arith) here) (hu (omega arith) here) low (omega (arith, high)) owes
+charged steps v u ls j (suc (suc (suc k))) n here following eh ef alone hv hu most low high owes = absurd (omega (arith, most))
+
 pub from-slice : (steps : List ℤ) (v u : Row) (ls : List Layer) (j n : ℕ) → OwesFrom steps v u [] (take (length ls - j) (drop j ls)) n → OwesFrom steps v u [] (drop j ls) n
 from-slice steps v u ls j n h = let l = length-drop j ls in subst (λ (k : List Layer). OwesFrom steps v u [] k n) (take_all (length ls - j) (drop j ls) (omega (arith, l))) h
+
+-- what stands at a place within a list does not depend on what would stand past its end
+pub any-at : (ls : List Layer) (i : ℕ) (a b : Layer) → i < length ls → get_or ls i a ≡ get_or ls i b
+any-at [] i a b h = absurd (omega (arith, h))
+any-at (l ∷ ls) zero a b h = refl
+any-at (l ∷ ls) (suc i) a b h = any-at ls i a b (omega (arith, h))

@@ -1,4 +1,3 @@
-pub mod Ranges
 pub mod Rows
 pub mod Paths
 pub mod Bound
@@ -6,3 +5,4 @@ pub mod Guards
 pub mod Ladder
 pub mod Windows
 pub mod Flat
+pub mod Searching

@@ -1,7 +1,8 @@
-ghost use Rattle.std.specs.Prelude.{◌≡◌, ◌≤◌, ◌+◌, ◌*◌, ◌^◌, ℕ, ℤ, [], length, drop, get_or};
+ghost use Rattle.std.specs.Prelude.{◌≤◌, ◌+◌, ◌*◌, ◌^◌, ℕ, ℤ, [], length};
 ghost use Rattle.adpcm_nums.specs.Nums.{square_of};
-ghost use Rattle.row_bound.specs.Paths.{Path, Owes};
+ghost use Rattle.row_bound.specs.Paths.{Path};
 ghost use Rattle.row_bound.specs.Ladder.{IsLadder};
+ghost use Rattle.row_bound.specs.Searching.{HasRoom, AreFloors};
 
 use crate::advice::{Advice, NONE, quotient, times};
 use crate::layer::Layer;
@@ -52,21 +53,15 @@ fn whole(
     top: u64,
     effort: Effort,
 ) -> u64
-    requires prefix { length prefix.old ≡ 28 }
-    requires trail { length trail.old ≡ 28 }
-    requires layers { length layers.now ≤ 28 }
-    requires ladder { IsLadder steps.now }
-    requires floors { length floors.now ≡ 29 }
-    requires small { (i : ℕ) → i ≤ length layers.now → get_or floors.now i 0 ≤ 2 ^ 48 }
-    requires owed { (i : ℕ) → i ≤ length layers.now → Owes steps.now (drop i layers.now) (get_or floors.now i 0) }
+    requires room { HasRoom layers.now steps.now prefix.old trail.old }
+    requires floors { AreFloors layers.now steps.now floors.now }
     requires low { 1 ≤ entering }
     requires high { entering ≤ 2 }
     ensures most { result ≤ top }
     ensures owes { (y x : ℤ) (c : ℕ) → Path steps.now [] layers.now x y c → result ≤ entering * square_of y + entering * square_of x + c }
 {
     let at = open(entering);
-    let rest = &floors[0..layers.len() + 1];
-    root(layers, steps, rest, prefix, trail, at, at, top, effort)
+    root(layers, steps, floors, prefix, trail, at, at, top, effort)
 }
 
 /// A bound under every path of a block's layers, at most `top`: the two errors that it starts from are weighed by

@@ -1,5 +1,5 @@
 ghost use Rattle.std.specs.Prelude.{◌≡◌, ◌^◌, pos, negsuc, false};
-ghost use Rattle.row_bound.specs.Ranges.{IsWithin};
+ghost use Rattle.adpcm_nums.specs.Ranges.{IsWithin};
 
 use crate::row::Row;
 

@@ -1,5 +1,5 @@
 ghost use Rattle.std.specs.Prelude.{◌≤◌, ◌^◌, pos, negsuc};
-ghost use Rattle.row_bound.specs.Ranges.{IsWithin};
+ghost use Rattle.adpcm_nums.specs.Ranges.{IsWithin};
 
 /// What ties the error z of a place to the errors x and y of the two places before it:
 /// `low <= d * z - a * x - b * y <= high`. An error is an output, or twice an output, less its target.

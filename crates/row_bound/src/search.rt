@@ -1,7 +1,6 @@
-ghost use Rattle.std.specs.Prelude.{◌≡◌, ◌≤◌, ◌<◌, ◌+◌, ◌^◌, ℕ, List, ◌++◌, ◌∷◌, [], length, take, drop, get_or, false};
-ghost use Rattle.row_bound.specs.declared.row.Row.{Row};
-ghost use Rattle.row_bound.specs.Paths.{Owes, OwesFrom};
-ghost use Rattle.row_bound.specs.Ladder.{IsLadder};
+ghost use Rattle.std.specs.Prelude.{◌≡◌, ◌≤◌, ◌<◌, ◌+◌, ◌++◌, ◌∷◌, [], length, take, drop, false};
+ghost use Rattle.row_bound.specs.Paths.{OwesFrom};
+ghost use Rattle.row_bound.specs.Searching.{HasRoom, AreFloors};
 
 use crate::advice::{Advice, advised, settled, tied};
 use crate::layer::Layer;
@@ -18,6 +17,15 @@ pub(crate) struct Effort {
     pub goal: u64,
     /// What is added to each pivot, in 16ths, so that factors stay small where intervals are wide.
     pub ease: i64,
+}
+
+impl Effort {
+    /// Goes no further once a bound is found that is known already.
+    fn settle(&mut self, found: u64) {
+        if found <= self.goal {
+            self.nodes = 0;
+        }
+    }
 }
 
 /// Puts a row behind the first `k`.
@@ -47,13 +55,8 @@ pub(crate) fn search(
     requires v { v.known ≡ false }
     requires u { u.known ≡ false }
     requires k { k < length layers.now }
-    requires prefix { length prefix.old ≡ 28 }
-    requires trail { length trail.old ≡ 28 }
-    requires layers { length layers.now ≤ 28 }
-    requires ladder { IsLadder steps.now }
-    requires floors { length floors.now ≡ length layers.now + 1 }
-    requires small { (i : ℕ) → i ≤ length layers.now → get_or floors.now i 0 ≤ 2 ^ 48 }
-    requires owed { (i : ℕ) → i ≤ length layers.now → Owes steps.now (drop i layers.now) (get_or floors.now i 0) }
+    requires room { HasRoom layers.now steps.now prefix.old trail.old }
+    requires floors { AreFloors layers.now steps.now floors.now }
     ensures kept { take k prefix.new ≡ take k prefix.old }
     ensures most { result ≤ top }
     ensures owes { OwesFrom steps.now v u (take k prefix.old) (drop k layers.now) result }
@@ -108,9 +111,7 @@ pub(crate) fn search(
                     found,
                     effort,
                 );
-                if found <= effort.goal {
-                    effort.nodes = 0;
-                }
+                effort.settle(found);
             }
             done = widened(done, side, steps.len());
         }

@@ -1,7 +1,8 @@
-ghost use Rattle.std.specs.Prelude.{◌≡◌, ◌≤◌, ◌<◌, ◌+◌, ◌-◌, ◌^◌, ℕ, [], length, drop, get_or, true, false, pos};
-ghost use Rattle.row_bound.specs.Flat.{IsOlderFree, IsLastFree};
+ghost use Rattle.std.specs.Prelude.{◌≡◌, ◌≤◌, ◌<◌, ◌+◌, ◌-◌, [], length, drop, get_or, true, false};
+ghost use Rattle.row_bound.specs.declared.layer.Layer.{Layer};
+ghost use Rattle.row_bound.specs.Flat.{IsOlderFree, IsLastFree, IsAlone};
 ghost use Rattle.row_bound.specs.Paths.{Owes, OwesFrom};
-ghost use Rattle.row_bound.specs.Ladder.{IsLadder};
+ghost use Rattle.row_bound.specs.Searching.{HasRoom, AreFloors};
 
 use crate::advice::Advice;
 use crate::layer::Layer;
@@ -55,13 +56,8 @@ pub(crate) fn root(
 ) -> u64
     requires v { v.known ≡ false }
     requires u { u.known ≡ false }
-    requires prefix { length prefix.old ≡ 28 }
-    requires trail { length trail.old ≡ 28 }
-    requires layers { length layers.now ≤ 28 }
-    requires ladder { IsLadder steps.now }
-    requires floors { length floors.now ≡ length layers.now + 1 }
-    requires small { (i : ℕ) → i ≤ length layers.now → get_or floors.now i 0 ≤ 2 ^ 48 }
-    requires owed { (i : ℕ) → i ≤ length layers.now → Owes steps.now (drop i layers.now) (get_or floors.now i 0) }
+    requires room { HasRoom layers.now steps.now prefix.old trail.old }
+    requires floors { AreFloors layers.now steps.now floors.now }
     ensures most { result ≤ top }
     ensures owes { OwesFrom steps.now v u [] layers.now result }
 {
@@ -71,81 +67,6 @@ pub(crate) fn root(
     let mut left = effort;
     search(
         layers, steps, floors, prefix, trail, 0, v, u, top, &mut left,
-    )
-}
-
-/// What the places from `j - 2` on cost at least, from whatever errors, by the search from `j` on.
-pub(crate) fn two_back(
-    layers: &[Layer],
-    steps: &[i64],
-    floors: &[u64],
-    prefix: &mut [Row],
-    trail: &mut [Advice],
-    j: usize,
-    top: u64,
-    effort: Effort,
-) -> u64
-    requires prefix { length prefix.old ≡ 28 }
-    requires trail { length trail.old ≡ 28 }
-    requires layers { length layers.now ≤ 28 }
-    requires ladder { IsLadder steps.now }
-    requires floors { length floors.now ≡ 29 }
-    requires j_low { 2 ≤ j }
-    requires j_high { j ≤ length layers.now }
-    requires small { (i : ℕ) → i ≤ length layers.now → get_or floors.now i 0 ≤ 2 ^ 48 }
-    requires owed { (i : ℕ) → i ≤ length layers.now → Owes steps.now (drop i layers.now) (get_or floors.now i 0) }
-    ensures most { result ≤ top }
-    ensures owes { Owes steps.now (drop (j - 2) layers.now) result }
-{
-    let before = layers[j - 2];
-    let last = layers[j - 1];
-    let v = open(before.base.weight);
-    let u = open(last.base.weight);
-    let rest = &floors[j..layers.len() + 1];
-    root(&layers[j..], steps, rest, prefix, trail, v, u, top, effort)
-}
-
-/// What the places from `j - 1` on cost at least, from whatever errors, by the search from `j` on, where the rows of `j` do
-/// not ask for the error of `j - 2`; otherwise 0.
-pub(crate) fn one_back(
-    layers: &[Layer],
-    steps: &[i64],
-    floors: &[u64],
-    prefix: &mut [Row],
-    trail: &mut [Advice],
-    j: usize,
-    top: u64,
-    effort: Effort,
-) -> u64
-    requires prefix { length prefix.old ≡ 28 }
-    requires trail { length trail.old ≡ 28 }
-    requires layers { length layers.now ≤ 28 }
-    requires ladder { IsLadder steps.now }
-    requires floors { length floors.now ≡ 29 }
-    requires j_low { 1 ≤ j }
-    requires j_high { j < length layers.now }
-    requires small { (i : ℕ) → i ≤ length layers.now → get_or floors.now i 0 ≤ 2 ^ 48 }
-    requires owed { (i : ℕ) → i ≤ length layers.now → Owes steps.now (drop i layers.now) (get_or floors.now i 0) }
-    ensures most { result ≤ top }
-    ensures owes { Owes steps.now (drop (j - 1) layers.now) result }
-{
-    let last = layers[j - 1];
-    let here = layers[j];
-    if !skips_older(here) {
-        return 0;
-    }
-    let u = open(last.base.weight);
-    let rest = &floors[j..layers.len() + 1];
-    root(
-        &layers[j..],
-        steps,
-        rest,
-        prefix,
-        trail,
-        open(2),
-        u,
-        top,
-        effort,
     )
 }
 
@@ -161,46 +82,62 @@ fn layer_after(layers: &[Layer], j: usize, here: Layer) -> Layer
     }
 }
 
-/// What the places from `j` on cost at least, from whatever errors, where the rows of `j` ask for no error before and those
-/// of the next place not for the one two places before; otherwise 0.
-pub(crate) fn none_back(
+/// Whether no row of two layers asks for an error more than `taps` places before the first of them.
+fn is_alone(here: Layer, following: Layer, taps: usize) -> bool
+    ensures { result ≡ true → IsAlone here following taps }
+{
+    if taps >= 2 {
+        return true;
+    }
+    if !skips_older(here) {
+        return false;
+    }
+    taps == 1 || (skips_last(here) && skips_older(following))
+}
+
+/// The error of the place `back` before `j`, where a search from `j` on starts from it: it is weighed as that place's rows
+/// where the search is charged to `taps` places before; beyond them it counts as 0.
+fn entering(layers: &[Layer], j: usize, back: usize, taps: usize) -> Row
+    requires j { j < length layers.now }
+    requires taps { taps ≤ j }
+    ensures known { result.known ≡ false }
+    ensures weight { back ≤ taps → (any : Layer) → result.weight ≡ (get_or layers.now (j - back) any).base.weight }
+{
+    if back <= taps {
+        open(layers[j - back].base.weight)
+    } else {
+        open(2)
+    }
+}
+
+/// What the places from `j - taps` on cost at least, from whatever errors, by a search from `j` on; 0 where rows ask for
+/// errors before those places, or where `top` is known already.
+pub(crate) fn searched_from(
     layers: &[Layer],
     steps: &[i64],
     floors: &[u64],
     prefix: &mut [Row],
     trail: &mut [Advice],
     j: usize,
+    taps: usize,
     top: u64,
     effort: Effort,
 ) -> u64
-    requires prefix { length prefix.old ≡ 28 }
-    requires trail { length trail.old ≡ 28 }
-    requires layers { length layers.now ≤ 28 }
-    requires ladder { IsLadder steps.now }
-    requires floors { length floors.now ≡ 29 }
+    requires room { HasRoom layers.now steps.now prefix.old trail.old }
+    requires floors { AreFloors layers.now steps.now floors.now }
+    requires taps { taps ≤ 2 }
+    requires j_low { taps ≤ j }
     requires j_high { j < length layers.now }
-    requires small { (i : ℕ) → i ≤ length layers.now → get_or floors.now i 0 ≤ 2 ^ 48 }
-    requires owed { (i : ℕ) → i ≤ length layers.now → Owes steps.now (drop i layers.now) (get_or floors.now i 0) }
     ensures most { result ≤ top }
-    ensures owes { Owes steps.now (drop j layers.now) result }
+    ensures owes { Owes steps.now (drop (j - taps) layers.now) result }
 {
     let here = layers[j];
-    if !skips_older(here) || !skips_last(here) {
+    let following = layer_after(layers, j, here);
+    if effort.goal >= top || !is_alone(here, following, taps) {
         return 0;
     }
-    if !skips_older(layer_after(layers, j, here)) {
-        return 0;
-    }
-    let rest = &floors[j..layers.len() + 1];
-    root(
-        &layers[j..],
-        steps,
-        rest,
-        prefix,
-        trail,
-        open(2),
-        open(2),
-        top,
-        effort,
-    )
+    let v = entering(layers, j, 2, taps);
+    let u = entering(layers, j, 1, taps);
+    let rest = &floors[j..];
+    root(&layers[j..], steps, rest, prefix, trail, v, u, top, effort)
 }

@@ -11,7 +11,7 @@ use Rattle.adpcm_nums.proofs.NearestLaws.{floor-low, floor-high}
 use Rattle.adpcm_nums.proofs.OrderLaws.{le-or-gt}
 use Rattle.adpcm_nums.proofs.Multiples.{swap-product}
 use Rattle.window_floor.specs.Quantizer.{AreLevels}
-use Rattle.window_floor.proofs.Orders.{in-order}
+use Rattle.adpcm_nums.proofs.ProductLaws.{in-order}
 use Rattle.window_floor.proofs.Quotients.{next-multiple, one-product}
 use Rattle.window_floor.proofs.NibbleLevels.{levels-by}
 use Rattle.spu_machine.specs.Spu.{acting_shift, sample_of}

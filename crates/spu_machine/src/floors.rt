@@ -1,4 +1,4 @@
-ghost use Rattle.std.specs.Prelude.{◌≡◌, ◌≤◌, ◌<◌, ℕ, length, get_or, min};
+ghost use Rattle.std.specs.Prelude.{◌≡◌, ◌≤◌, ◌<◌, ℕ, length, get_or};
 ghost use Rattle.adpcm_nums.specs.Sample.{AreSamples};
 ghost use Rattle.window_floor.specs.Numbers.{StandFor, windows_of};
 ghost use Rattle.spu_machine.specs.Spu.{shift_of};
@@ -33,15 +33,4 @@ pub(crate) fn fill_floors(head: u32, targets: &[i32], table: &mut [u64])
     ensures floors { (p : ℕ) → p ≤ 28 → get_or table.new p 0 ≡ spu_floor head p targets.now }
 {
     window_floor::fill_floors(windows(head), targets, table);
-}
-
-/// The floor under a block under a head where that is less than `most`, and else some number that is at least `most`.
-#[tactic(auto, unfolding(crate::specs::Floors::spu_floor))]
-pub(crate) fn floor_below(head: u32, targets: &[i32], most: u64) -> u64
-    requires head { head < 80 }
-    requires count { length targets.now ≡ 28 }
-    requires targets { AreSamples targets.now }
-    ensures { min result most ≡ min (spu_floor head 0 targets.now) most }
-{
-    window_floor::floor_below(windows(head), targets, most)
 }

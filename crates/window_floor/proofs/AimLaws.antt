@@ -7,7 +7,8 @@ use Rattle.window_floor.specs.Miss.{miss_of, rounded_miss}
 use Rattle.window_floor.specs.Quantizer.{IsAim}
 use Rattle.adpcm_nums.proofs.LeastValueLaws.{least_of-below, least_of-reached}
 use Rattle.adpcm_nums.proofs.OrderLaws.{le-or-gt}
-use Rattle.window_floor.proofs.Orders.{in-order, nearer-below, nearer-above}
+use Rattle.adpcm_nums.proofs.ProductLaws.{in-order}
+use Rattle.window_floor.proofs.Orders.{nearer-below, nearer-above}
 
 -- a miss as the distance of a multiple of the scale
 miss-of : (w : Row) (rho a v : ℤ) (e : ℕ) → v ≡ w.d *ℤ a +ℤ w.bias -ℤ pos e → miss_of w rho a e ≡ unsigned_abs (rho -ℤ w.scale *ℤ v)

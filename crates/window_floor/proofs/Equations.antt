@@ -2,7 +2,7 @@
 use Rattle.std.proofs.Common.{◌≡◌, arith, ap, sym, ◌∙◌}
 use Rattle.std.specs.Prelude.{ℤ, pos, ◌+ℤ◌, ◌-ℤ◌, ◌*ℤ◌}
 use Rattle.std.proofs.lemmas.Int.{ints}
-use Rattle.window_floor.proofs.Products.{mul-sub, mul-swap}
+use Rattle.adpcm_nums.proofs.ProductLaws.{mul-sub, mul-swap}
 
 -- d times an error s*y - x
 error-times : (d s y x : ℤ) → d *ℤ (s *ℤ y -ℤ x) ≡ s *ℤ (d *ℤ y) -ℤ d *ℤ x

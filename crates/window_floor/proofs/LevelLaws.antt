@@ -11,7 +11,7 @@ use Rattle.window_floor.specs.Quantizer.{AreLevels, IsAim, IsLevelMiss}
 use Rattle.adpcm_nums.proofs.LeastValueLaws.{min-is, least_of-below, least_of-reached}
 use Rattle.window_floor.proofs.MissLaws.{miss-below, miss-reached}
 use Rattle.adpcm_nums.proofs.OrderLaws.{le-or-gt}
-use Rattle.window_floor.proofs.Orders.{in-order}
+use Rattle.adpcm_nums.proofs.ProductLaws.{in-order}
 use Rattle.window_floor.proofs.AimLaws.{under-aim, over-aim}
 
 -- n is the number of the last level that is not above x, or of the lowest level

@@ -4,13 +4,13 @@ use Rattle.std.specs.Prelude.{ℤ, pos, negsuc, ◌+ℤ◌, ◌-ℤ◌, ◌*ℤ�
 use Rattle.std.proofs.lemmas.Int.{ints}
 use Rattle.std.proofs.lemmas.Bool.{cond-true, cond-false}
 use Rattle.adpcm_nums.specs.Sample.{IsSample, AreSamples}
-use Rattle.window_floor.specs.Ranges.{IsWithin}
+use Rattle.adpcm_nums.specs.Ranges.{IsWithin}
 use Rattle.adpcm_nums.specs.LeastValue.{least, least_of}
 use Rattle.window_floor.specs.Row.{Row}
 use Rattle.window_floor.specs.Miss.{miss_of, rounded_miss, wrapped_miss, least_miss}
 use Rattle.window_floor.specs.Outcome.{IsWrap, none, up, down}
 use Rattle.adpcm_nums.proofs.LeastValueLaws.{least_of-below, least_of-reached, least_of-is, least_of-more}
-use Rattle.window_floor.proofs.Products.{mul-sub}
+use Rattle.adpcm_nums.proofs.ProductLaws.{mul-sub}
 
 -- a scale is 1 or 2
 pub one-or-two : (s : ℤ) → IsWithin s (pos 1) (pos 2) → (s ≡ pos 1) ⊎ (s ≡ pos 2)

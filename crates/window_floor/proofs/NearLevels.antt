@@ -6,7 +6,7 @@ use Rattle.std.proofs.lemmas.Int.{ints}
 use Rattle.adpcm_nums.specs.Nums.{floor_of}
 use Rattle.adpcm_nums.specs.Nearest.{within_of}
 use Rattle.adpcm_nums.proofs.OrderLaws.{le-or-gt, low-is, high-is, inside-is}
-use Rattle.window_floor.proofs.Orders.{in-order}
+use Rattle.adpcm_nums.proofs.ProductLaws.{in-order}
 use Rattle.window_floor.proofs.Quotients.{quotient-low, quotient-high, next-multiple, one-product}
 
 -- one unit more for each number more

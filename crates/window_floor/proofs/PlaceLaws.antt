@@ -6,7 +6,7 @@ use Rattle.std.proofs.Math.Nat.{mul-le-mul}
 use Rattle.adpcm_nums.specs.Sample.{IsSample, AreSamples}
 use Rattle.adpcm_nums.proofs.LeastValueLaws.{least_of-is}
 use Rattle.window_floor.specs.Row.{Row, size_of}
-use Rattle.window_floor.specs.Ranges.{IsWithin}
+use Rattle.adpcm_nums.specs.Ranges.{IsWithin}
 use Rattle.window_floor.specs.Floor.{output_cost, window_floor}
 use Rattle.window_floor.specs.Quantizer.{AreLevels}
 use Rattle.window_floor.specs.Windows.{Windows, target_at, single_floor, sample_floor, one_window, two_window, three_window, window_at, own_at}

@@ -10,8 +10,7 @@ use Rattle.adpcm_nums.specs.Sample.{IsSample}
 use Rattle.adpcm_nums.proofs.NearestLaws.{floor-low, floor-high}
 use Rattle.window_floor.specs.Row.{Row}
 use Rattle.window_floor.specs.Quantizer.{IsAim}
-use Rattle.window_floor.proofs.Products.{mul-add, mul-swap}
-use Rattle.window_floor.proofs.Orders.{in-order}
+use Rattle.adpcm_nums.proofs.ProductLaws.{mul-add, mul-swap, in-order}
 
 -- a divisor above 0
 some : (d : ℤ) → pos 1 ≤ℤ d → 0 < unsigned_abs d

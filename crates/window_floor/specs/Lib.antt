@@ -1,4 +1,3 @@
-pub mod Ranges
 pub mod Row
 pub mod Miss
 pub mod Quantizer

@@ -2,7 +2,7 @@ ghost use Rattle.std.specs.Prelude.{◌≡◌, ◌⊎◌, ◌↔◌, IsTrue, ℤ
 ghost use Rattle.std.specs.Int.{int_min, int_max};
 ghost use Rattle.adpcm_nums.specs.Nums.{floor_of};
 ghost use Rattle.adpcm_nums.specs.Sample.{IsSample};
-ghost use Rattle.window_floor.specs.Ranges.{IsWithin};
+ghost use Rattle.adpcm_nums.specs.Ranges.{IsWithin};
 
 use crate::miss::WRAP;
 use adpcm_nums::{floor_div, multiple};

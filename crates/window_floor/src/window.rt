@@ -1,6 +1,6 @@
 ghost use Rattle.std.specs.Prelude.{◌≡◌, ◌≤◌, ◌+◌, pos, negsuc, unsigned_abs};
 ghost use Rattle.adpcm_nums.specs.Nums.{square_of};
-ghost use Rattle.window_floor.specs.Ranges.{IsWithin};
+ghost use Rattle.adpcm_nums.specs.Ranges.{IsWithin};
 
 /// The numbers of a filter: `d * prediction = ca * o + cb * r + bias - e` for some e in `0..=errs`, where o is the last
 /// output and r the one before it.

@@ -2,7 +2,7 @@ use Rattle.std.proofs.Common.{rules, arith, ◌+◌, ◌∙◌, ap, refl, length
 use Rattle.std.specs.Prelude.{take, drop, [], ◌∷◌, ◌++◌}
 use Rattle.row_bound.proofs.DoneLaws.{told}
 use Rattle.row_bound.proofs.SearchLaws.{searched-all, searched-less, searched-as, layers-at, rows-as, kept-less}
-use Rattle.row_bound.proofs.search.+search.Goals.{then-ends, else-ends+then-found-effort, else-ends+else-found-effort}
+use Rattle.row_bound.proofs.search.+search.Goals.{then-ends, else-ends}
 use Rattle.row_bound.proofs.search.+search.Goals as goal
 
 pub loop-v-preserved-then-verdict-found : goal.loop-v-preserved-then-verdict-found
@@ -13,7 +13,7 @@ loop-v-preserved-then-verdict-found n c =
     let row = c.row_at-row.result in
     let old = c.loop-v.invariant in
     let is = c.put_row.ensures.more ∙ ap (λ l. l ++ (row ∷ [])) old.kept in
-    let tells = c.judged-verdict.ensures steps ws rest is (c.requires.owed (c.args.k + 1) (omega arith)) in
+    let tells = c.judged-verdict.ensures steps ws rest is (c.requires.floors.owed (c.args.k + 1) (omega arith)) in
     record {
       prefix = search rules;
       trail = search rules;
@@ -21,7 +21,7 @@ loop-v-preserved-then-verdict-found n c =
       most = old.most;
       high = c.closed-done.ensures.within;
       low = omega (arith, c.closed-done.ensures.below, old.low);
-      searched = c.closed-done.ensures.searched steps c.args.v c.args.u ws rest c.index-layers-k.result row c.judged-verdict.result.floor c.loop-v.found c.requires.ladder refl old.low c.row_at-row.ensures old.searched tells c.if-verdict-found.true;
+      searched = c.closed-done.ensures.searched steps c.args.v c.args.u ws rest c.index-layers-k.result row c.judged-verdict.result.floor c.loop-v.found c.requires.room.ladder refl old.low c.row_at-row.ensures old.searched tells c.if-verdict-found.true;
     }
 
 pub loop-v-preserved : goal.loop-v-preserved
@@ -40,7 +40,7 @@ loop-v-preserved n c =
     elim c.if-ends.branch [
       | then-ends w ↦ (
           let floor = c.judged-verdict.result.floor in
-          let tells = c.judged-verdict.ensures steps ws rest is (c.requires.owed (k + 1) (omega arith)) in
+          let tells = c.judged-verdict.ensures steps ws rest is (c.requires.floors.owed (k + 1) (omega arith)) in
           let owes = told steps v u ws rest row floor floor c.judged-verdict.result.rises tells (omega arith) in
           let less = searched-less steps v u ws rest layer c.loop-v.done t floor (omega (arith, c.if-verdict-found.false)) old.searched in
           record {
@@ -52,20 +52,7 @@ loop-v-preserved n c =
             low = omega (arith, c.widened-done.ensures.below, old.low);
             searched = searched-as steps v u ws rest layer _ floor _ w.found-is (c.widened-done.ensures.searched steps v u ws rest layer row floor c.row_at-row.ensures less owes);
           })
-      | else-ends+then-found-effort w ↦ (
-          let s = w.search-found.result in
-          let owes = rows-as steps v u _ (ws ++ (row ∷ [])) rest s is w.search-found.ensures.owes in
-          let less = searched-less steps v u ws rest layer c.loop-v.done t s w.search-found.ensures.most old.searched in
-          record {
-            prefix = ap length w.prefix-is ∙ (search rules);
-            trail = ap length w.trail-is ∙ (search rules);
-            kept = ap (take k) w.prefix-is ∙ (kept-less k (k + 1) _ _ (omega arith) w.search-found.ensures.kept ∙ (c.put_row.ensures.kept ∙ old.kept));
-            most = omega (arith, w.found-is, w.search-found.ensures.most, old.most);
-            high = c.widened-done.ensures.within;
-            low = omega (arith, c.widened-done.ensures.below, old.low);
-            searched = searched-as steps v u ws rest layer _ s _ w.found-is (c.widened-done.ensures.searched steps v u ws rest layer row s c.row_at-row.ensures less owes);
-          })
-      | else-ends+else-found-effort w ↦ (
+      | else-ends w ↦ (
           let s = w.search-found.result in
           let owes = rows-as steps v u _ (ws ++ (row ∷ [])) rest s is w.search-found.ensures.owes in
           let less = searched-less steps v u ws rest layer c.loop-v.done t s w.search-found.ensures.most old.searched in

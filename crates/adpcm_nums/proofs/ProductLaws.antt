@@ -1,6 +1,6 @@
--- Products of whole numbers: over sums and differences, and with their factors swapped.
+-- Products of whole numbers: over sums and differences, with their factors swapped, and in their order.
 use Rattle.std.proofs.Common.{◌≡◌, ℕ, zero, suc, arith, ap, sym, ◌∙◌}
-use Rattle.std.specs.Prelude.{ℤ, pos, negsuc, ◌+ℤ◌, ◌-ℤ◌, ◌*ℤ◌}
+use Rattle.std.specs.Prelude.{ℤ, pos, negsuc, ◌+ℤ◌, ◌-ℤ◌, ◌*ℤ◌, ◌≤ℤ◌}
 use Rattle.std.proofs.Math.IntN.{suc_ℤ-*ℤ, pred_ℤ-*ℤ, zero-*ℤ, *ℤ-zero}
 use Rattle.std.proofs.lemmas.Int.{ints}
 
@@ -49,3 +49,13 @@ mul-swap (negsuc zero) b c =
 mul-swap (negsuc (suc n)) b c =
     let i = mul-swap (negsuc n) b c in let s = ap (λ x. b *ℤ x) (last-product n c) ∙ mul-sub b (negsuc n *ℤ c) c in
     last-product n (b *ℤ c) ∙ (ap (λ x. x -ℤ b *ℤ c) i ∙ sym s)
+
+-- a product of two numbers from 0 on
+natural-product : (k a : ℤ) → pos 0 ≤ℤ k → pos 0 ≤ℤ a → pos 0 ≤ℤ (k *ℤ a)
+natural-product (pos k) (pos a) h l = omega (arith, ints)
+natural-product (pos k) (negsuc a) h l = absurd (omega (arith, ints))
+natural-product (negsuc k) a h l = absurd (omega (arith, ints))
+
+-- a factor from 0 on keeps the order
+pub in-order : (k a b : ℤ) → pos 0 ≤ℤ k → a ≤ℤ b → (k *ℤ a) ≤ℤ (k *ℤ b)
+in-order k a b h l = let p = natural-product k (b -ℤ a) h (omega (arith, ints)) in let s = mul-sub k b a in omega (arith, ints, p, s)

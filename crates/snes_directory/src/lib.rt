@@ -4,6 +4,7 @@
 mod as_part;
 mod entry;
 mod entry_lists;
+mod entry_tracks;
 mod fault;
 mod header;
 mod image;

@@ -1,13 +1,14 @@
-ghost use Rattle.std.specs.Prelude.{◌≡◌, ◌≤◌, ◌<◌, ◌*◌, ◌++◌, ◌∷◌, [], length, map, All, IsTrue, OnOk, IfOk, IfSome};
+ghost use Rattle.std.specs.Prelude.{◌≡◌, ◌≤◌, ◌<◌, ◌*◌, ◌++◌, ◌∷◌, [], length, All, IsTrue, OnOk, IfOk, IfSome};
 ghost use Rattle.std.specs.List.{flat_map};
 ghost use Rattle.adpcm_nums.specs.Outcome.{Gives};
 ghost use Rattle.loop_fit.specs.Fit.{IsWhole, points_of};
 ghost use Rattle.ima_machine.specs.Ima.{is_align};
 ghost use Rattle.manifest_reader.specs.Ranges.{IsWithin};
 ghost use Rattle.snes_directory.specs.declared.fault.LayFault.TheVariants.{NoMemory as OutOfMemory};
-ghost use Rattle.bank_kinds.specs.Kinds.{brr_codec, spu_codec, ima_codec, codec_for};
-ghost use Rattle.bank_compile.specs.Bank.{IsOut, part_of, first_file, vag_out, ima_out, cert_file, own_files, sample_files, image_of, image_files, bank_of};
+ghost use Rattle.bank_kinds.specs.Kinds.{spu_codec, ima_codec, codec_for};
+ghost use Rattle.bank_compile.specs.Bank.{IsOut, first_file, vag_out, ima_out, cert_file, own_files, sample_files, image_files, bank_of};
 
+use crate::image::image;
 use crate::sample::SampleOut;
 use adpcm_nums::{Bytes, LoopAt, NoMemory, Text};
 use bank_kinds::samples_in_block;
@@ -16,41 +17,10 @@ use ima_wave::{ImaFile, write_ima};
 use loop_fit::Fitted;
 use machine_core::Kind;
 use manifest_reader::{Manifest, cert_name, first_pass_name, ima_name, vag_name};
-use snes_directory::{ImagePart, LayFault, write_image};
+use snes_directory::LayFault;
 use std::alloc::Global;
 use vag_writer::write_vag;
 use wave_form::{write_wave, write_wave_loop};
-
-/// The samples as they lie in the image.
-fn parts(alloc: Global, outs: &[SampleOut]) -> Result<Vec<ImagePart>, NoMemory>
-    ensures { IfOk result (λ parts. parts.items ≡ map part_of outs.now) }
-{
-    let mut parts = Vec::with_capacity(alloc, outs.len()).map_err(|_| NoMemory)?;
-    for out in outs {
-        let part = ImagePart {
-            rate: out.rate,
-            blocks: Bytes::copy_of(alloc, out.blocks.as_slice())?,
-            loop_block: out.fitted.loop_block,
-        };
-        match parts.push(part) {
-            Ok(()) => {}
-            Err(_) => return Err(NoMemory),
-        }
-    }
-    Ok(parts)
-}
-
-/// The image of the samples, one behind the other.
-fn image(alloc: Global, base: u32, outs: &[SampleOut]) -> Result<Bytes, LayFault>
-    requires base { IsWithin 0 65280 256 base }
-    requires some { 1 ≤ length outs.now }
-    requires few { length outs.now ≤ 64 }
-    requires outs { All (IsOut brr_codec) outs.now }
-    ensures { Gives OutOfMemory (λ image. image) result (image_of base outs.now) }
-{
-    let parts = parts(alloc, outs)?;
-    write_image(alloc, base, parts.as_slice())
-}
 
 /// The samples of the loop in a sound that is fitted to blocks of so many, or the loop that stays at its frames.
 fn loop_points(samples: u32, fitted: &Fitted) -> Option<LoopAt>

@@ -2,6 +2,7 @@
 #![tactic(auto)]
 
 mod bank;
+mod image;
 mod joined;
 mod kinds;
 mod replay;

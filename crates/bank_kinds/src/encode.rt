@@ -6,6 +6,7 @@ ghost use Rattle.player_model.specs.FormatLaws.{FitsBlock};
 ghost use Rattle.bank_kinds.specs.Chosen.{list_of};
 ghost use Rattle.bank_kinds.specs.Codec.{codec_of, IsCodec, IsStoredCodec};
 
+use crate::spell::spell_blocks;
 use adpcm_nums::{Bytes, NoMemory};
 use machine_core::{Choice, Machine};
 use std::alloc::Global;
@@ -40,6 +41,10 @@ pub trait Stored: Machine {
     /// How its blocks are stored.
     ghost format: { Self → Format };
 
+    /// What an output is multiplied by to be a sample of 16 bits.
+    fn output_scale(&self) -> i32
+        ensures { result ≡ pos (Self.rules self.now).decoder.scale };
+
     /// Bytes in a stored block.
     fn block_size(&self) -> u32
         ensures { result ≡ (format self.now).size };
@@ -58,4 +63,27 @@ pub trait Stored: Machine {
 
     /// It keeps the laws of codecs whose blocks are stored in a format.
     ghost stored: { (m : Self) → IsStoredCodec (Self.rules m) (format m) };
+}
+
+// Blocks that are stored in a format are spelled one after another.
+impl<S: Stored> Encode for S {
+    ghost use Rattle.bank_kinds.specs.Codec.{stored_codec};
+
+    ghost bytes = { λ m. (stored_codec (S.rules m) (S.format m)).bytes };
+
+    fn scale(&self) -> i32 {
+        self.output_scale()
+    }
+
+    fn spell(
+        &self,
+        alloc: Global,
+        choice: &Choice,
+        blocks: u32,
+        loop_block: Option<u32>,
+    ) -> Result<Bytes, NoMemory> {
+        spell_blocks(alloc, self, choice, blocks, loop_block)
+    }
+
+    ghost encodes = { λ m. (S.stored m).codec };
 }

@@ -1,11 +1,8 @@
-ghost use Rattle.std.specs.Prelude.{◌≡◌, ◌<◌, ◌++◌, All, IfSome, OnOk, length};
+ghost use Rattle.std.specs.Prelude.{◌≡◌, ◌<◌, All, length};
 
-use crate::encode::{Encode, Stored};
-use crate::spell::spell_blocks;
-use adpcm_nums::{Bytes, NoMemory};
+use crate::encode::Stored;
+use adpcm_nums::NoMemory;
 use ima_machine::Ima;
-use machine_core::Choice;
-use std::alloc::Global;
 
 /// Writes codes as bytes.
 fn put_codes(symbols: &[u32], codes: &mut [u8])
@@ -23,6 +20,10 @@ impl Stored for Ima {
     ghost use Rattle.bank_kinds.specs.Laws.{ima_is_stored};
 
     ghost format = { λ m. ima_format m.align };
+
+    fn output_scale(&self) -> i32 {
+        1
+    }
 
     fn block_size(&self) -> u32 {
         self.align
@@ -49,27 +50,4 @@ impl Stored for Ima {
     }
 
     ghost stored = { λ m. ima_is_stored m.align m.fits };
-}
-
-impl Encode for Ima {
-    ghost use Rattle.bank_kinds.specs.Kinds.{ima_codec};
-    ghost use Rattle.bank_kinds.specs.Laws.{ima_is_codec};
-
-    ghost bytes = { λ m. (ima_codec m.align).bytes };
-
-    fn scale(&self) -> i32 {
-        1
-    }
-
-    fn spell(
-        &self,
-        alloc: Global,
-        choice: &Choice,
-        blocks: u32,
-        loop_block: Option<u32>,
-    ) -> Result<Bytes, NoMemory> {
-        spell_blocks(alloc, self, choice, blocks, loop_block)
-    }
-
-    ghost encodes = { λ m. ima_is_codec m.align m.fits };
 }

@@ -46,9 +46,10 @@ use Rattle.decompile_core.specs.declared.form.Form.TheVariants.{Brr as ImageForm
 use Rattle.decompile_core.specs.declared.fault.DecompileFault.{DecompileFault}
 use Rattle.decompile_core.specs.declared.fault.DecompileFault.TheVariants.{Vag as OfVag, Ima as OfIma, Track as OfTrack, TooMuch}
 use Rattle.decompile_core.specs.declared.recovered.Recovered.{Recovered}
-use Rattle.decompile_core.specs.Limit.{is_much}
+use Rattle.player_model.specs.Limit.{is_much}
 use Rattle.decompile_core.specs.Recovered.{sound_recovered, stored_recovered}
-use Rattle.decompile_core.specs.Decompiled.{decompiled, entry_of, frames_of, ima_in, ima_recovered, ima_track_in, only, or_refused, short_sound, short_track, track_at, vag_in, vag_recovered, vag_track}
+use Rattle.snes_directory.specs.EntryTracks.{track_at}
+use Rattle.decompile_core.specs.Decompiled.{decompiled, entry_of, frames_of, ima_in, ima_recovered, ima_track_in, only, or_refused, short_sound, short_track, vag_in, vag_recovered, vag_track}
 use Rattle.decompile_core.specs.Heard.{AreEntries, IsShort, SoundsAs, first_pass, sound_of}
 use Rattle.bank_tool.specs.GivenBack.{IsCompiledAt, IsFirstPass}
 

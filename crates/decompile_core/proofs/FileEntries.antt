@@ -22,9 +22,10 @@ use Rattle.decompile_core.specs.declared.form.Form.TheVariants.{Brr, Vag, Ima}
 use Rattle.decompile_core.specs.declared.fault.DecompileFault.{DecompileFault}
 use Rattle.decompile_core.specs.declared.fault.DecompileFault.TheVariants.{Image as OfImage, Vag as OfVag, Ima as OfIma, Track as OfTrack, TooMuch}
 use Rattle.decompile_core.specs.declared.recovered.Recovered.{Recovered}
-use Rattle.decompile_core.specs.Limit.{is_much}
+use Rattle.player_model.specs.Limit.{is_much}
 use Rattle.decompile_core.specs.Recovered.{stored_recovered, sound_recovered}
-use Rattle.decompile_core.specs.Decompiled.{or_refused, image_in, blocks_in, is_long, entries_of, entry_of, unless_long, image_decompiled, vag_in, short_track, vag_track, vag_recovered, ima_in, frames_of, short_sound, ima_track_in, ima_recovered, only, decompiled}
+use Rattle.snes_directory.specs.EntryTracks.{blocks_in, is_long}
+use Rattle.decompile_core.specs.Decompiled.{or_refused, image_in, entries_of, entry_of, unless_long, image_decompiled, vag_in, short_track, vag_track, vag_recovered, ima_in, frames_of, short_sound, ima_track_in, ima_recovered, only, decompiled}
 use Rattle.decompile_core.specs.Heard.{AreEntries, IsShort, sound_of}
 use Rattle.decompile_core.proofs.FileSounds.{read_image}
 use Rattle.decompile_core.proofs.ImaSteps.{found_with, ima_found}

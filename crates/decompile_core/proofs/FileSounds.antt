@@ -20,9 +20,10 @@ use Rattle.decompile_core.specs.declared.form.Form.TheVariants.{Brr, Vag, Ima}
 use Rattle.decompile_core.specs.declared.fault.DecompileFault.{DecompileFault}
 use Rattle.decompile_core.specs.declared.fault.DecompileFault.TheVariants.{Track as OfTrack, TooMuch}
 use Rattle.decompile_core.specs.declared.recovered.Recovered.{Recovered}
-use Rattle.decompile_core.specs.Limit.{is_much}
+use Rattle.player_model.specs.Limit.{is_much}
 use Rattle.decompile_core.specs.Recovered.{stored_recovered, sound_recovered}
-use Rattle.decompile_core.specs.Decompiled.{or_refused, image_in, track_at, is_long, entries_of, entry_of, unless_long, image_decompiled, vag_in, short_track, vag_track, vag_recovered, ima_in, frames_of, short_sound, ima_track_in, ima_recovered, only, decompiled}
+use Rattle.snes_directory.specs.EntryTracks.{is_long, track_at}
+use Rattle.decompile_core.specs.Decompiled.{or_refused, image_in, entries_of, entry_of, unless_long, image_decompiled, vag_in, short_track, vag_track, vag_recovered, ima_in, frames_of, short_sound, ima_track_in, ima_recovered, only, decompiled}
 use Rattle.decompile_core.specs.Heard.{sound_of, player_of, IsHeard, AreEntries}
 use Rattle.decompile_core.proofs.FileWays.{brr_shifts, brr_way, spu_shifts, spu_way}
 use Rattle.decompile_core.proofs.ImaSteps.{found_with, ima_found, once_scaled}

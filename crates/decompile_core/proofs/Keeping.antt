@@ -16,7 +16,7 @@ use Rattle.player_model.proofs.Passes.{points-ordered}
 use Rattle.ima_wave.specs.declared.file.ImaFile.{ImaFile}
 use Rattle.ima_wave.specs.Files.{IsImaFile}
 use Rattle.decompile_core.specs.declared.recovered.Recovered.{Recovered}
-use Rattle.decompile_core.specs.Limit.{is_much}
+use Rattle.player_model.specs.Limit.{is_much}
 use Rattle.decompile_core.specs.Decompiled.{frames_of}
 use Rattle.decompile_core.specs.Playings.{end_of, kept_samples, length_of, samples_of, settled, settles_at}
 use Rattle.decompile_core.specs.Recovered.{IsEntry, recovered_of, stored_recovered, with_loop}

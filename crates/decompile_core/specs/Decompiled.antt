@@ -1,19 +1,19 @@
 -- What a bank file is taken apart into, or the first fault.
-use Rattle.std.specs.Prelude.{ℕ, zero, suc, ◌-◌, ◌*◌, if◌then◌else◌, Bool, List, [], ◌∷◌, ◌++◌, length, get_or, Option, Some, None, Result, Ok, Err}
+use Rattle.std.specs.Prelude.{ℕ, zero, suc, ◌-◌, ◌*◌, if◌then◌else◌, List, [], ◌∷◌, ◌++◌, length, get_or, Option, Some, None, Result, Ok, Err}
 use Rattle.adpcm_nums.specs.First.{first_where}
 use Rattle.adpcm_nums.specs.Outcome.{◌>>=◌}
 use Rattle.brr_machine.specs.Brr.{brr}
 use Rattle.spu_machine.specs.Spu.{spu}
 use Rattle.ima_machine.specs.Ima.{samples_in}
-use Rattle.player_model.specs.declared.fault.TrackFault.{TrackFault}
 use Rattle.player_model.specs.Track.{Track}
 use Rattle.player_model.specs.BrrFormat.{brr_format}
-use Rattle.player_model.specs.BrrTrack.{track_of}
 use Rattle.player_model.specs.SpuFormat.{spu_format}
 use Rattle.player_model.specs.SpuTrack.{spu_track_of}
 use Rattle.player_model.specs.ImaTrack.{ImaSound, blocks_of, ima_track_of}
+use Rattle.player_model.specs.Limit.{is_much}
 use Rattle.snes_directory.specs.declared.image.Image.{Image}
 use Rattle.snes_directory.specs.Reading.{image_of}
+use Rattle.snes_directory.specs.EntryTracks.{blocks_in, is_long, track_at}
 use Rattle.vag_writer.specs.declared.vag.Vag.{Vag}
 use Rattle.vag_writer.specs.Reading.{vag_of}
 use Rattle.ima_wave.specs.declared.file.ImaFile.{ImaFile}
@@ -23,7 +23,6 @@ use Rattle.decompile_core.specs.declared.form.Form.TheVariants.{Brr, Vag as VagF
 use Rattle.decompile_core.specs.declared.fault.DecompileFault.{DecompileFault}
 use Rattle.decompile_core.specs.declared.fault.DecompileFault.TheVariants.{Image as OfImage, Vag as OfVag, Ima as OfIma, Track as OfTrack, TooMuch}
 use Rattle.decompile_core.specs.declared.recovered.Recovered.{Recovered}
-use Rattle.decompile_core.specs.Limit.{is_much}
 use Rattle.decompile_core.specs.Recovered.{stored_recovered, sound_recovered}
 
 -- what was read, or the reader's fault
@@ -34,19 +33,6 @@ or_refused fault (Err e) = Err (fault e)
 -- the image that bytes are
 unfoldable pub image_in : List ℕ → Result Image DecompileFault
 image_in bytes = or_refused (λ f. OfImage f) (image_of bytes)
-
--- the track of an entry
-abbrev pub track_at : Image → ℕ → Result Track TrackFault
-track_at image i = track_of image.memory (get_or image.starts i 0) (get_or image.agains i 0)
-
--- its blocks
-abbrev pub blocks_in : Result Track TrackFault → ℕ
-blocks_in (Ok track) = track.blocks
-blocks_in (Err fault) = 0
-
--- whether an entry is too long
-abbrev pub is_long : Image → ℕ → Bool
-is_long image i = is_much (blocks_in (track_at image i)) brr.samples
 
 -- what an entry is taken apart into
 abbrev pub entry_of : Image → ℕ → Result Recovered DecompileFault

@@ -19,9 +19,10 @@ use Rattle.decompile_core.specs.declared.fault.DecompileFault.{DecompileFault}
 use Rattle.decompile_core.specs.declared.fault.DecompileFault.TheVariants.{Track as OfTrack}
 use Rattle.decompile_core.specs.declared.recovered.Recovered.{Recovered}
 use Rattle.decompile_core.specs.declared.recovered.Settles.TheVariants.{Unsettled}
-use Rattle.decompile_core.specs.Limit.{is_much}
+use Rattle.player_model.specs.Limit.{is_much}
 use Rattle.decompile_core.specs.Recovered.{first_settles}
-use Rattle.decompile_core.specs.Decompiled.{entry_of, image_in, ima_in, or_refused, track_at, vag_in}
+use Rattle.snes_directory.specs.EntryTracks.{track_at}
+use Rattle.decompile_core.specs.Decompiled.{entry_of, image_in, ima_in, or_refused, vag_in}
 
 -- the sound of a WAVE file of IMA ADPCM, with its loop
 abbrev pub sound_of : ImaFile → ImaSound

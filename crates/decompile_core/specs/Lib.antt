@@ -1,4 +1,3 @@
-pub mod Limit
 pub mod Playings
 pub mod Recovered
 pub mod Decompiled

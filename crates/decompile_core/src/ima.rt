@@ -8,13 +8,12 @@ ghost use Rattle.decompile_core.specs.Recovered.{IsEntry};
 ghost use Rattle.decompile_core.specs.Decompiled.{ima_in, ima_recovered, ima_track_in};
 
 use crate::fault::DecompileFault;
-use crate::limit::is_much;
 use crate::recovered::{Recovered, Settles};
 use adpcm_nums::{NoMemory, Samples};
 use ima_machine::Ima;
 use ima_wave::{ImaFile, ImaWaveFault, read_ima};
 use machine_core::Machine;
-use player_model::{ImaPlayer, ImaTrack, ima_track};
+use player_model::{ImaPlayer, ImaTrack, ima_track, is_much};
 use std::alloc::Global;
 
 /// The WAVE file of IMA ADPCM that bytes are.

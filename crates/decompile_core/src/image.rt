@@ -1,16 +1,15 @@
-ghost use Rattle.std.specs.Prelude.{◌≡◌, ◌^◌, ◌<◌, ◌≤◌, length, false, All, IfOk, IfSome, None};
+ghost use Rattle.std.specs.Prelude.{◌≡◌, ◌^◌, ◌<◌, ◌≤◌, length, false, All, IfOk, None};
 ghost use Rattle.adpcm_nums.specs.First.{first_where};
 ghost use Rattle.adpcm_nums.specs.Outcome.{Gives};
 ghost use Rattle.snes_directory.specs.Reading.{IsImage};
+ghost use Rattle.snes_directory.specs.EntryTracks.{is_long};
 ghost use Rattle.decompile_core.specs.declared.fault.DecompileFault.TheVariants.{NoMemory as OutOfMemory};
 ghost use Rattle.decompile_core.specs.Recovered.{IsEntry};
-ghost use Rattle.decompile_core.specs.Decompiled.{blocks_in, entries_of, entry_of, image_decompiled, image_in, is_long, track_at};
+ghost use Rattle.decompile_core.specs.Decompiled.{entries_of, entry_of, image_decompiled, image_in};
 
 use crate::fault::DecompileFault;
-use crate::limit::is_much;
 use crate::recovered::Recovered;
 use crate::stored::recover;
-use player_model::{BrrTrack, TrackFault, brr_track};
 use snes_directory::{Image, ImageFault, read_image};
 use std::alloc::Global;
 
@@ -28,53 +27,6 @@ fn image_in(alloc: Global, bytes: &[u8]) -> Result<Image, DecompileFault>
     }
 }
 
-/// The track of an entry.
-fn track_at(image: &Image, entry: u32) -> Result<BrrTrack<'_>, TrackFault>
-    requires image { IsImage image.now }
-    requires within { entry < length image.now.starts }
-    ensures { result ≡ track_at image.now entry }
-{
-    let i = entry as usize;
-    let start = image.starts.as_slice()[i];
-    let again = image.agains.as_slice()[i];
-    brr_track(image.memory.as_slice(), start, again)
-}
-
-/// The number of an entry's blocks.
-fn blocks_of(image: &Image, entry: u32) -> u32
-    requires image { IsImage image.now }
-    requires within { entry < length image.now.starts }
-    ensures { result ≡ blocks_in (track_at image.now entry) }
-{
-    match track_at(image, entry) {
-        Ok(track) => track.blocks(),
-        Err(_) => 0,
-    }
-}
-
-/// The number of entries.
-fn entries(image: &Image) -> u32
-    requires { IsImage image.now }
-    ensures { result ≡ length image.now.starts }
-{
-    image.starts.as_slice().len() as u32
-}
-
-/// The first entry of too many blocks, if there is one.
-#[tactic(auto, using(adpcm_nums::proofs::FirstLaws::none_at_zero, adpcm_nums::proofs::FirstLaws::none_more, adpcm_nums::proofs::FirstLaws::first_found))]
-fn first_long(image: &Image) -> Option<u32>
-    requires { IsImage image.now }
-    ensures value { result ≡ first_where (is_long image.now) (length image.now.starts) }
-    ensures within { IfSome result (λ i. i < length image.now.starts) }
-{
-    for i in 0..entries(image) {
-        if is_much(blocks_of(image, i), 16) {
-            return Some(i);
-        }
-    }
-    None
-}
-
 /// Samples and loop of an entry, where none of the entries is too long.
 fn recover_entry(alloc: Global, image: &Image, entry: u32) -> Result<Recovered, DecompileFault>
     requires image { IsImage image.now }
@@ -83,7 +35,7 @@ fn recover_entry(alloc: Global, image: &Image, entry: u32) -> Result<Recovered, 
     ensures exact { Gives OutOfMemory (λ entry. entry) result (entry_of image.now entry) }
     ensures kept { IfOk result IsEntry }
 {
-    match track_at(image, entry) {
+    match image.track_at(entry) {
         Ok(track) => {
             let rate = image.rates.as_slice()[entry as usize];
             Ok(recover(alloc, track, 2, rate, 0)?)
@@ -101,7 +53,7 @@ fn recover_entries(alloc: Global, image: &Image) -> Result<Vec<Recovered>, Decom
     ensures kept { IfOk result (λ list. All IsEntry list.items) }
 {
     let mut list = Vec::new(alloc);
-    for i in 0..entries(image) {
+    for i in 0..image.entries() {
         let entry = match recover_entry(alloc, image, i) {
             Ok(entry) => entry,
             Err(fault) => return Err(fault),
@@ -124,10 +76,10 @@ pub(crate) fn decompile_image(alloc: Global, bytes: &[u8]) -> Result<Vec<Recover
     ensures kept { IfOk result (λ list. All IsEntry list.items) }
 {
     let image = image_in(alloc, bytes)?;
-    match first_long(&image) {
+    match image.first_long() {
         None => recover_entries(alloc, &image),
         Some(i) => Err(DecompileFault::TooMuch {
-            blocks: u64::from(blocks_of(&image, i)),
+            blocks: u64::from(image.blocks_at(i)),
         }),
     }
 }

@@ -19,7 +19,7 @@ ghost use Rattle.ima_wave.specs.Reading.{ima_of};
 ghost use Rattle.decompile_core.specs.declared.form.Form.{Form};
 ghost use Rattle.decompile_core.specs.declared.form.Form.TheVariants.{Brr, Vag, Ima};
 ghost use Rattle.decompile_core.specs.declared.recovered.Recovered.{Recovered};
-ghost use Rattle.decompile_core.specs.Limit.{is_much};
+ghost use Rattle.player_model.specs.Limit.{is_much};
 ghost use Rattle.decompile_core.specs.Recovered.{stored_recovered, sound_recovered};
 ghost use Rattle.decompile_core.specs.Decompiled.{decompiled};
 ghost use Rattle.decompile_core.specs.Heard.{AreEntries, IsHeard, IsShort, SoundsAs, first_pass, sound_of};

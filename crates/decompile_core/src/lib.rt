@@ -10,7 +10,6 @@ mod form;
 mod ima;
 mod image;
 mod laws;
-mod limit;
 mod playings;
 mod recovered;
 mod stored;

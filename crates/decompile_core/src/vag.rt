@@ -6,10 +6,9 @@ ghost use Rattle.decompile_core.specs.Recovered.{IsEntry};
 ghost use Rattle.decompile_core.specs.Decompiled.{vag_in, vag_recovered, vag_track};
 
 use crate::fault::DecompileFault;
-use crate::limit::is_much;
 use crate::recovered::Recovered;
 use crate::stored::recover;
-use player_model::{SpuTrack, spu_track};
+use player_model::{SpuTrack, is_much, spu_track};
 use std::alloc::Global;
 use vag_writer::{Vag, VagFault, read_vag};
 

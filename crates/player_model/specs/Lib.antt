@@ -15,3 +15,4 @@ pub mod ImaFormat
 pub mod ImaLaws
 pub mod ImaTrack
 pub mod ImaPlayer
+pub mod Limit

@@ -9,6 +9,7 @@ mod ima_player;
 mod ima_walk;
 mod index;
 mod laws;
+mod limit;
 mod player;
 mod position;
 mod span;
@@ -26,6 +27,7 @@ pub use laws::{
     ima_is_stored, legal_begins_anew, stored_is_brr_track, stored_is_spu_track, stored_is_track,
     stored_plays_round,
 };
+pub use limit::is_much;
 pub use player::StoredPlayer;
 pub use position::Position;
 pub use spu_walk::{SpuPlayer, SpuTrack, play_spu_at, spu_track};

@@ -1,21 +1,32 @@
 -- A directory and its blocks, one sample after another.
-use Rattle.std.proofs.Common.{◌≡◌, ℕ, ◌+◌, ◌*◌, ◌<◌, ◌≤◌, List, [], ◌∷◌, ◌++◌, length, length-append, append_assoc, get_or, drop, refl, sym, ap, ◌∙◌, subst, arith}
+use Rattle.std.proofs.Common.{◌≡◌, ℕ, ◌+◌, ◌*◌, ◌<◌, ◌≤◌, List, [], ◌∷◌, ◌++◌, length, length-append, append_assoc, get_or, drop, take, map, refl, sym, ap, ◌∙◌, subst, arith}
 use Rattle.std.specs.Prelude.{All}
 use Rattle.std.specs.List.{sum_by, AllByRecursion}
-use Rattle.std.proofs.lemmas.List.{append-nil, drop_more}
-use Rattle.std.proofs.lemmas.List.Sums.{sum_by-cons}
+use Rattle.std.proofs.lemmas.List.{append-nil, drop_more, get_or-map, length-map}
+use Rattle.std.proofs.lemmas.List.Sums.{sum_by-cons, sum_by_more}
 use Rattle.std.proofs.lemmas.List.Elements.{All-get_or, recursion_from_All}
 use Rattle.snes_directory.specs.declared.part.ImagePart.{ImagePart}
 use Rattle.snes_directory.specs.Part.{blocks_of, IsPart}
 use Rattle.snes_directory.specs.Spelling.{entry_bytes, directory_bytes, block_bytes, memory_bytes}
 
--- the sample at place i, and those behind it
-pub drop-part : (parts : List ImagePart) (i : ℕ) (part : ImagePart) → i < length parts → part ≡ get_or parts i part → drop i parts ≡ part ∷ drop (i + 1) parts
-drop-part parts i part l is = drop_more parts i part l ∙ ap (λ (p : ImagePart). p ∷ drop (i + 1) parts) (sym is)
+-- the sample at place i, as it is written
+seen-at : {X : Type 0} (view : X → ImagePart) (xs : List X) (i : ℕ) (x : X) → i < length xs → x ≡ get_or xs i x → get_or (map view xs) i (view x) ≡ view x
+seen-at view xs i x less is = get_or-map view xs i x (view x) less ∙ ap view (sym is)
+
+-- and those behind it
+pub drop-part : {X : Type 0} (view : X → ImagePart) (xs : List X) (i : ℕ) (x : X) → i < length xs → x ≡ get_or xs i x → drop i (map view xs) ≡ view x ∷ drop (i + 1) (map view xs)
+drop-part view xs i x less is =
+    drop_more (map view xs) i (view x) (omega (arith, length-map xs view)) ∙ ap (λ (p : ImagePart). p ∷ drop (i + 1) (map view xs)) (seen-at view xs i x less is)
 
 -- it may be written as all may
-pub part-at : (parts : List ImagePart) (i : ℕ) (part : ImagePart) → i < length parts → part ≡ get_or parts i part → All IsPart parts → IsPart part
-part-at parts i part l is all = subst IsPart (sym is) (All-get_or IsPart parts i part l all)
+pub part-at : {X : Type 0} (view : X → ImagePart) (xs : List X) (i : ℕ) (x : X) → i < length xs → x ≡ get_or xs i x → All IsPart (map view xs) → IsPart (view x)
+part-at view xs i x less is all = subst IsPart (seen-at view xs i x less is) (All-get_or IsPart (map view xs) i (view x) (omega (arith, length-map xs view)) all)
+
+-- its blocks were counted
+pub blocks_more : {X : Type 0} (view : X → ImagePart) (xs : List X) (i : ℕ) (x : X) → i < length xs → x ≡ get_or xs i x
+    → sum_by blocks_of (take (i + 1) (map view xs)) ≡ sum_by blocks_of (take i (map view xs)) + blocks_of (view x)
+blocks_more view xs i x less is =
+    sum_by_more blocks_of (map view xs) i (view x) (omega (arith, length-map xs view)) ∙ ap (λ p. sum_by blocks_of (take i (map view xs)) + blocks_of p) (seen-at view xs i x less is)
 
 -- one entry more was put
 pub directory_more : (out new all : List ℕ) (start : ℕ) (parts : List ImagePart) (i : ℕ) (part : ImagePart) → drop i parts ≡ part ∷ drop (i + 1) parts
@@ -41,9 +52,9 @@ room_more start parts i part next room =
     omega (arith, step)
 
 -- and there is room for its own
-pub room_part : (start : ℕ) (parts : List ImagePart) (i : ℕ) (part : ImagePart) → drop i parts ≡ part ∷ drop (i + 1) parts → start + length (block_bytes (drop i parts)) ≤ 65536
-    → start + length part.blocks ≤ 65536
-room_part start parts i part next room = omega (arith, room_more start parts i part next room)
+pub room_part : {X : Type 0} (view : X → ImagePart) (xs : List X) (i : ℕ) (x : X) (start : ℕ) → i < length xs → x ≡ get_or xs i x → start + length (block_bytes (drop i (map view xs))) ≤ 65536
+    → start + length (view x).blocks ≤ 65536
+room_part view xs i x start less is room = omega (arith, room_more start (map view xs) i (view x) (drop-part view xs i x less is) room)
 
 -- an entry has four bytes
 pub directory_bytes-length : (start : ℕ) (parts : List ImagePart) → length (directory_bytes start parts) ≡ 4 * length parts

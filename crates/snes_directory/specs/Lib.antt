@@ -7,3 +7,4 @@ pub mod Sizes
 pub mod Entry
 pub mod Reading
 pub mod Stored
+pub mod EntryTracks

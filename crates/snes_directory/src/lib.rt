@@ -1,8 +1,10 @@
 //! The image of a sample bank in the SNES's sound memory: where samples lie, how an image file is written and read.
 #![tactic(auto)]
 
+mod as_part;
 mod entry;
 mod entry_lists;
+mod entry_tracks;
 mod fault;
 mod header;
 mod image;
@@ -12,6 +14,7 @@ mod part;
 mod reading;
 mod writing;
 
+pub use as_part::AsPart;
 pub use fault::{ImageFault, LayFault};
 pub use image::Image;
 pub use laws::{samples_lie_in_memory, written_is_read};

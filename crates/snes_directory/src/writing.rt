@@ -1,4 +1,4 @@
-ghost use Rattle.std.specs.Prelude.{◌≡◌, ◌++◌, ◌+◌, ◌*◌, ◌^◌, ◌<◌, ◌≤◌, All, OnOk, IfOk, length};
+ghost use Rattle.std.specs.Prelude.{◌≡◌, ◌++◌, ◌+◌, ◌*◌, ◌^◌, ◌<◌, ◌≤◌, All, OnOk, IfOk, length, map};
 ghost use Rattle.std.specs.List.{flat_map, sum_by};
 ghost use Rattle.byteorder.specs.Endian.{little_bytes};
 ghost use Rattle.adpcm_nums.specs.Outcome.{Gives};
@@ -6,9 +6,9 @@ ghost use Rattle.snes_directory.specs.Part.{IsPart, blocks_of, loop_address};
 ghost use Rattle.snes_directory.specs.Spelling.{block_bytes, directory_bytes, entry_bytes, header_bytes, image_file, memory_bytes, rate_bytes, written_image};
 ghost use Rattle.snes_directory.specs.declared.fault.LayFault.TheVariants.{NoMemory as OutOfMemory};
 
+use crate::as_part::AsPart;
 use crate::fault::LayFault;
 use crate::layout::memory_end;
-use crate::part::ImagePart;
 use adpcm_nums::Bytes;
 use byteorder::{ByteOrder, LittleEndian};
 use std::alloc::{AllocError, Global};
@@ -45,12 +45,12 @@ fn put_header(out: &mut Vec<u8>, base: u32, entries: u16, len: u32) -> Result<()
 
 /// An entry of the directory: the address of a sample's first block, and of the one after its last.
 #[tactic(auto, unfolding(crate::specs::Spelling::entry_bytes))]
-fn put_entry(out: &mut Vec<u8>, start: u32, part: &ImagePart) -> Result<(), AllocError>
+fn put_entry<P: AsPart>(out: &mut Vec<u8>, start: u32, part: &P) -> Result<(), AllocError>
     requires start { start < 65536 }
-    requires again { loop_address start part.now.loop_block < 65536 }
-    ensures { OnOk result (out.new.items ≡ out.old.items ++ entry_bytes start part.now) }
+    requires again { loop_address start (P.part part.now).loop_block < 65536 }
+    ensures { OnOk result (out.new.items ≡ out.old.items ++ entry_bytes start (P.part part.now)) }
 {
-    let again = match part.loop_block {
+    let again = match part.loop_block() {
         Some(block) => start + 9 * block,
         None => start,
     };
@@ -59,61 +59,66 @@ fn put_entry(out: &mut Vec<u8>, start: u32, part: &ImagePart) -> Result<(), Allo
 }
 
 /// The number of all blocks.
-fn all_blocks(parts: &[ImagePart]) -> u64
+fn all_blocks<P: AsPart>(parts: &[P]) -> u64
     requires few { length parts.now ≤ 64 }
-    requires parts { All IsPart parts.now }
-    ensures value { result ≡ sum_by blocks_of parts.now }
+    requires parts { All IsPart (map P.part parts.now) }
+    ensures value { result ≡ sum_by blocks_of (map P.part parts.now) }
     ensures high { result < 2 ^ 40 }
 {
     let mut all = 0u64;
     for part in parts {
-        all += part.blocks.as_slice().len() as u64 / 9;
+        all += part.blocks().len() as u64 / 9;
     }
     all
 }
 
 /// The rates of all samples.
-fn put_rates(out: &mut Vec<u8>, parts: &[ImagePart]) -> Result<(), AllocError>
-    ensures { OnOk result (out.new.items ≡ out.old.items ++ flat_map rate_bytes parts.now) }
+fn put_rates<P: AsPart>(out: &mut Vec<u8>, parts: &[P]) -> Result<(), AllocError>
+    ensures { OnOk result (out.new.items ≡ out.old.items ++ flat_map rate_bytes (map P.part parts.now)) }
 {
     for part in parts {
-        put_u32(out, part.rate)?;
+        put_u32(out, part.rate())?;
     }
     Ok(())
 }
 
 /// The directory of samples that lie one behind the other, from the first address on.
-fn put_directory(out: &mut Vec<u8>, first: u32, parts: &[ImagePart]) -> Result<(), AllocError>
-    requires parts { All IsPart parts.now }
-    requires room { first + length (block_bytes parts.now) ≤ 65536 }
-    ensures { OnOk result (out.new.items ≡ out.old.items ++ directory_bytes first parts.now) }
+fn put_directory<P: AsPart>(out: &mut Vec<u8>, first: u32, parts: &[P]) -> Result<(), AllocError>
+    requires parts { All IsPart (map P.part parts.now) }
+    requires room { first + length (block_bytes (map P.part parts.now)) ≤ 65536 }
+    ensures { OnOk result (out.new.items ≡ out.old.items ++ directory_bytes first (map P.part parts.now)) }
 {
     let mut start = first;
     for part in parts {
         put_entry(out, start, part)?;
-        start += part.blocks.as_slice().len() as u32;
+        start += part.blocks().len() as u32;
     }
     Ok(())
 }
 
 /// The blocks of all samples.
-fn put_blocks(out: &mut Vec<u8>, parts: &[ImagePart]) -> Result<(), AllocError>
-    ensures { OnOk result (out.new.items ≡ out.old.items ++ block_bytes parts.now) }
+fn put_blocks<P: AsPart>(out: &mut Vec<u8>, parts: &[P]) -> Result<(), AllocError>
+    ensures { OnOk result (out.new.items ≡ out.old.items ++ block_bytes (map P.part parts.now)) }
 {
     for part in parts {
-        out.extend_from_slice(part.blocks.as_slice())?;
+        out.extend_from_slice(part.blocks())?;
     }
     Ok(())
 }
 
 /// The bytes of an image whose memory has this length.
 #[tactic(auto, unfolding(crate::specs::Spelling::image_file))]
-fn put_image(alloc: Global, base: u32, len: u32, parts: &[ImagePart]) -> Result<Vec<u8>, AllocError>
+fn put_image<P: AsPart>(
+    alloc: Global,
+    base: u32,
+    len: u32,
+    parts: &[P],
+) -> Result<Vec<u8>, AllocError>
     requires few { length parts.now ≤ 64 }
-    requires parts { All IsPart parts.now }
-    requires length { len ≡ length (memory_bytes base parts.now) }
+    requires parts { All IsPart (map P.part parts.now) }
+    requires length { len ≡ length (memory_bytes base (map P.part parts.now)) }
     requires room { base + len ≤ 65536 }
-    ensures { IfOk result (λ file. file.items ≡ image_file base parts.now) }
+    ensures { IfOk result (λ file. file.items ≡ image_file base (map P.part parts.now)) }
 {
     let entries = parts.len() as u32;
     let mut out = Vec::with_capacity(alloc, (16 + 4 * entries + len) as usize)?;
@@ -131,11 +136,11 @@ fn put_image(alloc: Global, base: u32, len: u32, parts: &[ImagePart]) -> Result<
 /// blocks, the end flag on its last one alone, and a loop block exactly where that one repeats. So a file has at most
 /// 65,808 bytes.
 #[tactic(auto, unfolding(crate::specs::Spelling::written_image))]
-pub fn write_image(alloc: Global, base: u32, parts: &[ImagePart]) -> Result<Bytes, LayFault>
+pub fn write_image<P: AsPart>(alloc: Global, base: u32, parts: &[P]) -> Result<Bytes, LayFault>
     requires some { 1 ≤ length parts.now }
     requires few { length parts.now ≤ 64 }
-    requires parts { All IsPart parts.now }
-    ensures value { Gives OutOfMemory (λ file. file) result (written_image base parts.now) }
+    requires parts { All IsPart (map P.part parts.now) }
+    ensures value { Gives OutOfMemory (λ file. file) result (written_image base (map P.part parts.now)) }
     ensures short { IfOk result (λ file. length file ≤ 16 + 4 * 64 + 65536) }
 {
     let entries = parts.len() as u32;

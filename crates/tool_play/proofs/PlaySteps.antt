@@ -16,6 +16,7 @@ use Rattle.player_model.specs.SpuFormat.{spu_format}
 use Rattle.player_model.specs.SpuTrack.{spu_track_of}
 use Rattle.player_model.specs.Sound.{heard}
 use Rattle.player_model.specs.ImaTrack.{ImaSound, IsImaSound, blocks_of, heard_ima, ima_track_of}
+use Rattle.player_model.specs.Limit.{is_much}
 use Rattle.ima_machine.specs.Ima.{samples_in}
 use Rattle.ima_wave.specs.declared.file.ImaFile.{ImaFile}
 use Rattle.ima_wave.specs.Reading.{ima_of}
@@ -25,6 +26,7 @@ use Rattle.vag_writer.specs.declared.vag.Vag.{Vag}
 use Rattle.vag_writer.specs.Reading.{vag_of}
 use Rattle.snes_directory.specs.declared.image.Image.{Image}
 use Rattle.snes_directory.specs.Reading.{image_of}
+use Rattle.snes_directory.specs.EntryTracks.{is_long, track_at}
 use Rattle.command_plan.specs.declared.status.Status.{Status}
 use Rattle.command_plan.specs.declared.status.Status.TheVariants.{Done, Words, Input, Memory}
 use Rattle.command_plan.specs.declared.input_fault.InputFault.{InputFault}
@@ -38,7 +40,7 @@ use Rattle.command_plan.specs.Promise.{IsPlanOf, Reaches, Promises, Finishes}
 use Rattle.command_plan.proofs.ReadOn.{then-count, then-outcome}
 use Rattle.command_plan.proofs.Promised.{answers, done_is, then_reaches, unsaid, written}
 use Rattle.tool_files.specs.Source.{front_in}
-use Rattle.tool_play.specs.Play.{or_refused, whole_in, image_in, track_at, is_long, track_unless, track_in, vag_in, only_track, vag_track_in, ima_in, is_much, only_sound, ima_track_in, output_line, play_lines, image_said, vag_said, ima_said, said_by, said_of}
+use Rattle.tool_play.specs.Play.{or_refused, whole_in, image_in, track_unless, track_in, vag_in, only_track, vag_track_in, ima_in, only_sound, ima_track_in, output_line, play_lines, image_said, vag_said, ima_said, said_by, said_of}
 use Rattle.tool_play.specs.Played.{said_read, saying, play_course, IsPlayed, HasPlayed, AnswersPlay}
 use Rattle.tool_files.proofs.Unwritten.{unwritten_files}
 

@@ -1,13 +1,11 @@
 -- What a file says of one of its entries: the first outputs of a track of an image, of a VAG file or of a WAVE file of IMA ADPCM.
-use Rattle.std.specs.Prelude.{Bool, ℕ, zero, suc, ◌*◌, ◌||◌, nat_lt, if◌then◌else◌, ℤ, List, [], ◌++◌, length, get_or, codes, Option, Some, None, Result, Ok, Err}
+use Rattle.std.specs.Prelude.{ℕ, zero, suc, nat_lt, if◌then◌else◌, ℤ, List, [], ◌++◌, length, codes, Option, Some, None, Result, Ok, Err}
 use Rattle.std.specs.Fmt.{signed_decimal}
 use Rattle.adpcm_nums.specs.First.{first_where}
 use Rattle.adpcm_nums.specs.Outcome.{◌>>=◌}
 use Rattle.machine_core.specs.declared.state.Kind.{Kind}
 use Rattle.machine_core.specs.declared.state.Kind.TheVariants.{Brr, Spu, Ima}
-use Rattle.player_model.specs.declared.fault.TrackFault.{TrackFault}
 use Rattle.player_model.specs.Track.{Track}
-use Rattle.player_model.specs.BrrTrack.{track_of}
 use Rattle.brr_machine.specs.Brr.{brr}
 use Rattle.spu_machine.specs.Spu.{spu}
 use Rattle.player_model.specs.BrrFormat.{brr_format}
@@ -15,6 +13,7 @@ use Rattle.player_model.specs.SpuFormat.{spu_format}
 use Rattle.player_model.specs.SpuTrack.{spu_track_of}
 use Rattle.player_model.specs.Sound.{heard}
 use Rattle.player_model.specs.ImaTrack.{ImaSound, blocks_of, heard_ima, ima_track_of}
+use Rattle.player_model.specs.Limit.{is_much}
 use Rattle.ima_machine.specs.Ima.{samples_in}
 use Rattle.ima_wave.specs.declared.file.ImaFile.{ImaFile}
 use Rattle.ima_wave.specs.Reading.{ima_of}
@@ -23,6 +22,7 @@ use Rattle.vag_writer.specs.declared.vag.Vag.{Vag}
 use Rattle.vag_writer.specs.Reading.{vag_of}
 use Rattle.snes_directory.specs.declared.image.Image.{Image}
 use Rattle.snes_directory.specs.Reading.{image_of}
+use Rattle.snes_directory.specs.EntryTracks.{blocks_in, is_long, track_at}
 use Rattle.command_plan.specs.declared.status.Status.{Status}
 use Rattle.command_plan.specs.declared.status.Status.TheVariants.{Input}
 use Rattle.command_plan.specs.declared.input_fault.InputFault.{InputFault}
@@ -40,19 +40,6 @@ or_refused file fault (Err e) = Err (Input file (fault e))
 -- the image that a file is
 unfoldable pub image_in : List ℕ → List ℕ → Result Image Status
 image_in file bytes = or_refused file (λ f. OfImage f) (image_of bytes)
-
--- the track of an entry; there is one for each entry of an image that was read
-abbrev pub track_at : Image → ℕ → Result Track TrackFault
-track_at image i = track_of image.memory (get_or image.starts i 0) (get_or image.agains i 0)
-
--- the blocks of a track, or 0 where there is none
-abbrev pub blocks_in : Result Track TrackFault → ℕ
-blocks_in (Ok track) = track.blocks
-blocks_in (Err fault) = 0
-
--- an entry of more than 4,096 blocks is not played
-abbrev pub is_long : Image → ℕ → Bool
-is_long image i = nat_lt 4096 (blocks_in (track_at image i))
 
 -- the track that was asked for, unless an entry is too long, of which the first is told
 abbrev pub track_unless : List ℕ → Image → ℕ → Option ℕ → Result Track Status
@@ -84,10 +71,6 @@ vag_track_in file vag entry = do
 -- the WAVE file of IMA ADPCM that a file is
 unfoldable pub ima_in : List ℕ → List ℕ → Result ImaFile Status
 ima_in file bytes = or_refused file (λ f. OfIma f) (ima_of bytes)
-
--- more than 4,096 blocks or 262,144 samples are not played
-abbrev pub is_much : ℕ → ℕ → Bool
-is_much blocks samples = nat_lt 4096 blocks || nat_lt 262144 (blocks * samples)
 
 -- the one entry of such a file, unless it has too many blocks or samples in them
 abbrev pub only_sound : List ℕ → ℕ → ImaSound → ℕ → Result ImaSound Status

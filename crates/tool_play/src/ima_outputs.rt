@@ -2,14 +2,14 @@ ghost use Rattle.std.specs.Prelude.{◌≡◌, ◌≤◌, length, IfOk};
 ghost use Rattle.adpcm_nums.specs.Outcome.{Gives};
 ghost use Rattle.player_model.specs.ImaTrack.{heard_ima};
 ghost use Rattle.ima_wave.specs.Files.{IsImaFile};
-ghost use Rattle.tool_play.specs.Play.{play_lines, is_much, ima_in, ima_said, ima_track_in};
+ghost use Rattle.tool_play.specs.Play.{play_lines, ima_in, ima_said, ima_track_in};
 
 use adpcm_nums::{NoMemory, Text};
 use command_plan::{InputFault, Status, input_refused};
 use ima_machine::Ima;
 use ima_wave::{ImaFile, ImaWaveFault, read_ima};
 use machine_core::Machine;
-use player_model::{ImaPlayer, ImaTrack, ima_track};
+use player_model::{ImaPlayer, ImaTrack, ima_track, is_much};
 use std::alloc::Global;
 
 /// The first outputs of a track of IMA ADPCM, one in a line.
@@ -41,13 +41,6 @@ fn ima_in(alloc: Global, file: &str, bytes: &[u8]) -> Result<ImaFile, Status>
         Err(ImaWaveFault::NoMemory) => Err(Status::Memory),
         Err(fault) => Err(input_refused(alloc, file, InputFault::Ima { fault })),
     }
-}
-
-/// Whether so many blocks of so many samples are more than are played.
-fn is_much(blocks: u32, samples: u32) -> bool
-    ensures { result ≡ is_much blocks samples }
-{
-    blocks > 4096 || u64::from(blocks) * u64::from(samples) > 262_144
 }
 
 /// The track of the entry that was asked for, of which a WAVE file of IMA ADPCM has one.

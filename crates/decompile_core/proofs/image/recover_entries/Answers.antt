@@ -3,7 +3,7 @@ use Rattle.adpcm_nums.proofs.FirstLaws.{none_passes}
 use Rattle.std.specs.Prelude.{length, All}
 use Rattle.std.proofs.lemmas.List.Elements.{All-nil, All-push}
 use Rattle.decompile_core.specs.Recovered.{IsEntry}
-use Rattle.decompile_core.specs.Decompiled.{is_long}
+use Rattle.snes_directory.specs.EntryTracks.{is_long}
 use Rattle.decompile_core.proofs.EntrySteps.{entries_more, no_entries}
 use Rattle.decompile_core.proofs.FileSounds.{entries_each}
 use Rattle.decompile_core.proofs.image.recover_entries.Goals as goal

@@ -2,8 +2,8 @@ use Rattle.std.proofs.Common.{List, ℕ, get_or, sym, ap, ◌∙◌, subst, arit
 use Rattle.brr_machine.specs.Brr.{brr}
 use Rattle.player_model.specs.BrrFormat.{brr_format}
 use Rattle.snes_directory.specs.Reading.{IsRate}
-use Rattle.decompile_core.specs.Limit.{is_much}
-use Rattle.decompile_core.specs.Decompiled.{blocks_in}
+use Rattle.player_model.specs.Limit.{is_much}
+use Rattle.snes_directory.specs.EntryTracks.{blocks_in}
 use Rattle.decompile_core.proofs.FileWays.{brr_way}
 use Rattle.decompile_core.proofs.Keeping.{few_samples, kept_as, stored_kept}
 use Rattle.decompile_core.proofs.Ranges.{brr_heard_fits}

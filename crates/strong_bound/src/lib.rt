@@ -5,9 +5,13 @@
 //! error of all blocks.
 #![tactic(auto)]
 
+mod codes;
 mod greedy;
 mod heads;
 mod laws;
+mod quiet;
+mod rests;
+mod states;
 mod whole;
 mod window;
 

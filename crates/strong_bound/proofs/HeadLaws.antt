@@ -1,15 +1,16 @@
 -- What a head's windows say of its decoder, and bounds under each head.
-use Rattle.std.proofs.Common.{◌≡◌, ℕ, ◌+◌, ◌<◌, ◌≤◌, arith, ap, sym, subst, ◌∙◌, inl, inr, IsTrue, List, get_or, below_more, to_z, of_z, w64}
+use Rattle.std.proofs.Common.{◌≡◌, ℕ, ◌+◌, ◌<◌, ◌≤◌, arith, ap, sym, subst, ◌∙◌, inl, inr, IsTrue, List, get_or, take, below_more, to_z, of_z, w64}
 use Rattle.std.specs.Prelude.{◌⊎◌, ℤ, pos}
 use Rattle.std.proofs.lemmas.Int.{ints}
 use Rattle.machine_core.specs.declared.state.State.{State}
 use Rattle.machine_core.specs.declared.state.HeadRule.{HeadRule}
 use Rattle.machine_core.specs.Decoder.{Decoder}
 use Rattle.window_floor.specs.declared.block.BlockWindows.{BlockWindows}
-use Rattle.window_floor.specs.Numbers.{windows_of}
-use Rattle.window_floor.specs.Windows.{Windows}
+use Rattle.window_floor.specs.Numbers.{StandFor, windows_of}
+use Rattle.window_floor.specs.Windows.{Windows, floor_from}
 use Rattle.linear_machine.specs.Linear.{Linear, IsLinear}
-use Rattle.strong_bound.specs.Quiet.{IsUnderSymbols, HoldsRests, IsUnderStates, entering_cost}
+use Rattle.strong_bound.specs.Quiet.{shortened, IsUnderSymbols, HoldsRests, IsUnderStates, entering_cost}
+use Rattle.strong_bound.proofs.RestLaws.{rests-for}
 use Rattle.strong_bound.proofs.SymbolCounts.{rest-under, under-more}
 
 pub places-are : (l : Linear) → IsLinear l → (d : Decoder) → l.decoder ≡ d → (w : BlockWindows) (head : ℕ) → windows_of w (l.windows head).samples ≡ l.windows head → w.places ≡ d.samples
@@ -60,3 +61,14 @@ heads-more d rule aim targets twice n bound less front low last =
     below_more (λ k. IsTrue (d.allows k rule) → IsUnderStates d aim targets twice k less) n
     (λ k within allowed. states-less d aim targets twice k bound less low (front k within allowed))
     last
+
+-- the table of a head's floors is one of rests
+pub head-rests : (l : Linear) → IsLinear l → (d : Decoder) → l.decoder ≡ d → (w : BlockWindows) (head : ℕ) → windows_of w (l.windows head).samples ≡ l.windows head → StandFor w (l.windows head).samples
+    → (targets : List ℤ) (twice : ℕ) (rests : List ℕ) → twice ≤ d.samples
+    → ((samples : List ℤ) (p : ℕ) → StandFor w samples → p ≤ twice → get_or rests p 0 ≤ floor_from (windows_of w samples) targets p + floor_from (shortened (windows_of w samples) twice) (take twice targets) p)
+    → ((samples : List ℤ) (p : ℕ) → StandFor w samples → twice < p → p ≤ w.places → get_or rests p 0 ≤ floor_from (windows_of w samples) targets p)
+    → HoldsRests d targets twice head rests
+head-rests l is d e w head same stand targets twice rests few front back =
+    let samples = (l.windows head).samples in
+    let places = places-are l is d e w head same in
+    rests-for l is d e (windows_of w samples) targets twice head rests w.places few same (omega (arith, places)) (λ p h. front samples p stand h) (λ p h k. back samples p stand h k)

@@ -1,12 +1,12 @@
 -- Bounds under what is counted from the states near two targets, and from all others.
-use Rattle.std.proofs.Common.{◌≡◌, ℕ, ◌+◌, ◌*◌, ◌≤◌, arith, ap, sym, subst, ◌∙◌, inl, inr, IsTrue, List, get_or}
+use Rattle.std.proofs.Common.{◌≡◌, ℕ, ◌+◌, ◌≤◌, arith, ap, sym, subst, ◌∙◌, inl, inr, IsTrue, List, get_or}
 use Rattle.std.specs.Prelude.{◌⊎◌, ℤ, pos, ◌+ℤ◌, ◌-ℤ◌, ◌*ℤ◌, ◌≤ℤ◌, ◌<ℤ◌}
 use Rattle.std.proofs.lemmas.Int.{ints}
 use Rattle.adpcm_nums.specs.Nums.{square_of}
 use Rattle.adpcm_nums.proofs.OrderLaws.{le-or-gt}
 use Rattle.machine_core.specs.declared.state.State.{State}
 use Rattle.machine_core.specs.Decoder.{Decoder, cost_of}
-use Rattle.strong_bound.specs.Quiet.{IsUnderSymbols, IsUnderLast, IsUnderStates, HoldsRests, IsNear, entering_cost}
+use Rattle.strong_bound.specs.Quiet.{tried, far_cost, IsUnderSymbols, IsUnderLast, IsUnderStates, HoldsRests, IsNear, entering_cost}
 use Rattle.strong_bound.proofs.SymbolCounts.{under-more, rest-under}
 
 -- a number below one more is below, or is the last
@@ -45,7 +45,7 @@ last-all d targets twice head first aim paid n m bound e under = subst (λ (k : 
 -- a bound is under what is counted from the states of the first n older outputs
 unfoldable pub IsUnderOlder : Decoder → List ℤ → ℕ → ℕ → State → State → ℕ → ℕ → Type 0
 IsUnderOlder d targets twice head corner aim n bound =
-    (at : State) → IsTrue (d.is_state at) → corner.b ≤ℤ at.b → at.b <ℤ (corner.b +ℤ pos n) → corner.a ≤ℤ at.a → at.a <ℤ (corner.a +ℤ pos 13) → IsUnderSymbols d targets twice head 0 at (entering_cost d aim at) bound
+    (at : State) → IsTrue (d.is_state at) → corner.b ≤ℤ at.b → at.b <ℤ (corner.b +ℤ pos n) → corner.a ≤ℤ at.a → at.a <ℤ (corner.a +ℤ pos tried) → IsUnderSymbols d targets twice head 0 at (entering_cost d aim at) bound
 
 pub older-none : (d : Decoder) (targets : List ℤ) (twice head : ℕ) (corner aim : State) (bound : ℕ) → IsUnderOlder d targets twice head corner aim 0 bound
 unfolding IsUnderOlder
@@ -54,7 +54,7 @@ older-none d targets twice head corner aim bound = λ at fits low high from to. 
 -- one more older output
 pub older-more : (d : Decoder) (targets : List ℤ) (twice head : ℕ) (corner aim : State) (n bound less paid : ℕ) (first : State) → IsUnderOlder d targets twice head corner aim n bound → less ≤ bound
     → first.a ≡ corner.a → first.b ≡ corner.b +ℤ pos n → paid ≤ square_of (pos d.scale *ℤ first.b -ℤ aim.b)
-    → IsUnderLast d targets twice head first aim paid 13 less → IsUnderOlder d targets twice head corner aim (n + 1) less
+    → IsUnderLast d targets twice head first aim paid tried less → IsUnderOlder d targets twice head corner aim (n + 1) less
 unfolding IsUnderOlder IsUnderLast
 older-more d targets twice head corner aim n bound less paid first front low a is costs under = λ s fits below to from end.
     elim (below-or-at s.b corner.b n to) [
@@ -66,27 +66,27 @@ older-more d targets twice head corner aim n bound less paid first front low a i
     ]
 
 -- an output that is not near, by the decoder's own scale
-told-below : (scale aim first y : ℤ) (s : ℕ) → scale ≡ pos s → IsNear scale aim first → y <ℤ first → 36 * square_of scale ≤ square_of (pos s *ℤ y -ℤ aim)
-told-below scale aim first y s same near h = subst (λ (z : ℤ). 36 * square_of scale ≤ square_of (z *ℤ y -ℤ aim)) same (near.below y h)
+told-below : (scale aim first y : ℤ) (s : ℕ) → scale ≡ pos s → IsNear scale aim first → y <ℤ first → far_cost scale ≤ square_of (pos s *ℤ y -ℤ aim)
+told-below scale aim first y s same near h = subst (λ (z : ℤ). far_cost scale ≤ square_of (z *ℤ y -ℤ aim)) same (near.below y h)
 
-told-above : (scale aim first y : ℤ) (s : ℕ) → scale ≡ pos s → IsNear scale aim first → (first +ℤ pos 13) ≤ℤ y → 36 * square_of scale ≤ square_of (pos s *ℤ y -ℤ aim)
-told-above scale aim first y s same near h = subst (λ (z : ℤ). 36 * square_of scale ≤ square_of (z *ℤ y -ℤ aim)) same (near.above y h)
+told-above : (scale aim first y : ℤ) (s : ℕ) → scale ≡ pos s → IsNear scale aim first → (first +ℤ pos tried) ≤ℤ y → far_cost scale ≤ square_of (pos s *ℤ y -ℤ aim)
+told-above scale aim first y s same near h = subst (λ (z : ℤ). far_cost scale ≤ square_of (z *ℤ y -ℤ aim)) same (near.above y h)
 
 -- the states near the targets, and those whose errors alone come to as much
-pub states-all : (d : Decoder) (targets : List ℤ) (twice head : ℕ) (rests : List ℕ) (scale : ℤ) (corner aim : State) (top n bound : ℕ) → HoldsRests d targets twice head rests → scale ≡ pos d.scale → n ≡ 13
-    → IsUnderOlder d targets twice head corner aim n bound → bound ≤ top → top ≤ get_or rests 0 0 + 36 * square_of scale → IsNear scale aim.a corner.a → IsNear scale aim.b corner.b
+pub states-all : (d : Decoder) (targets : List ℤ) (twice head : ℕ) (rests : List ℕ) (scale : ℤ) (corner aim : State) (top n bound : ℕ) → HoldsRests d targets twice head rests → scale ≡ pos d.scale → n ≡ tried
+    → IsUnderOlder d targets twice head corner aim n bound → bound ≤ top → top ≤ get_or rests 0 0 + far_cost scale → IsNear scale aim.a corner.a → IsNear scale aim.b corner.b
     → IsUnderStates d aim targets twice head bound
 unfolding IsUnderOlder IsUnderStates
 states-all d targets twice head rests scale corner aim top n bound holds same all near low high last older = λ at fits.
-    let far : 36 * square_of scale ≤ entering_cost d aim at → IsUnderSymbols d targets twice head 0 at (entering_cost d aim at) bound =
+    let far : far_cost scale ≤ entering_cost d aim at → IsUnderSymbols d targets twice head 0 at (entering_cost d aim at) bound =
     λ h. rest-under d targets twice head rests 0 at (entering_cost d aim at) bound holds (omega arith) (omega (arith, low, high, h)) in
     elim (le-or-gt corner.b at.b) [
       | inr w ↦ far (let k = told-below scale aim.b corner.b at.b d.scale same older w in omega (arith, k))
-      | inl b_low ↦ elim (le-or-gt (corner.b +ℤ pos 13) at.b) [
+      | inl b_low ↦ elim (le-or-gt (corner.b +ℤ pos tried) at.b) [
         | inl w ↦ far (let k = told-above scale aim.b corner.b at.b d.scale same older w in omega (arith, k))
         | inr b_high ↦ elim (le-or-gt corner.a at.a) [
           | inr w ↦ far (let k = told-below scale aim.a corner.a at.a d.scale same last w in omega (arith, k))
-          | inl a_low ↦ elim (le-or-gt (corner.a +ℤ pos 13) at.a) [
+          | inl a_low ↦ elim (le-or-gt (corner.a +ℤ pos tried) at.a) [
             | inl w ↦ far (let k = told-above scale aim.a corner.a at.a d.scale same last w in omega (arith, k))
             | inr a_high ↦ near at fits b_low (subst (λ (k : ℕ). at.b <ℤ (corner.b +ℤ pos k)) (sym all) b_high) a_low a_high
           ]
@@ -98,3 +98,9 @@ states-all d targets twice head rests scale corner aim top n bound holds same al
 pub entering-under : (d : Decoder) (targets : List ℤ) (twice head : ℕ) (rests : List ℕ) (at : State) (paid cost entering all top : ℕ) → HoldsRests d targets twice head rests
     → entering ≤ paid + cost → all ≤ entering + get_or rests 0 0 → top ≤ all → IsUnderSymbols d targets twice head 0 at (paid + cost) top
 entering-under d targets twice head rests at paid cost entering all top holds h k low = rest-under d targets twice head rests 0 at (paid + cost) top holds (omega arith) (omega (arith, h, k, low))
+
+-- the same for each last output
+pub last-under : (d : Decoder) (targets : List ℤ) (twice head : ℕ) (rests : List ℕ) (first aim : State) (paid n all top : ℕ) → HoldsRests d targets twice head rests → all ≤ paid + get_or rests 0 0 → top ≤ all
+    → IsUnderLast d targets twice head first aim paid n top
+unfolding IsUnderLast
+last-under d targets twice head rests first aim paid n all top holds h low = λ at fits same from to. rest-under d targets twice head rests 0 at (paid + cost_of d at aim.a) top holds (omega arith) (omega (arith, h, low))

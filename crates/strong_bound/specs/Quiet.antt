@@ -46,12 +46,20 @@ unfoldable pub IsUnderStates : Decoder → State → List ℤ → ℕ → ℕ �
 IsUnderStates d aim targets twice head bound =
     (at : State) → IsTrue (d.is_state at) → IsUnderSymbols d targets twice head 0 at (entering_cost d aim at) bound
 
--- thirteen outputs from the first on stand around a target: any other misses it by as much as six outputs
+-- how many outputs are tried around a target: the nearest twenty on each side and the one between
+abbrev pub tried : ℕ
+tried = 41
+
+-- what an output costs, at least, that is further from a target than those
+abbrev pub far_cost : ℤ → ℕ
+far_cost scale = 400 * square_of scale
+
+-- the outputs around a target begin with `first`
 pub record IsNear (scale target first : ℤ) : Type 0 where
   pub low : negsuc 65535 ≤ℤ first
   pub high : first ≤ℤ pos 65535
-  pub below : (y : ℤ) → y <ℤ first → 36 * square_of scale ≤ square_of (scale *ℤ y -ℤ target)
-  pub above : (y : ℤ) → (first +ℤ pos 13) ≤ℤ y → 36 * square_of scale ≤ square_of (scale *ℤ y -ℤ target)
+  pub below : (y : ℤ) → y <ℤ first → far_cost scale ≤ square_of (scale *ℤ y -ℤ target)
+  pub above : (y : ℤ) → (first +ℤ pos tried) ≤ℤ y → far_cost scale ≤ square_of (scale *ℤ y -ℤ target)
 
 -- the same windows of fewer places
 abbrev pub shortened : Windows → ℕ → Windows

@@ -12,6 +12,8 @@ mod laws;
 mod quiet;
 mod rests;
 mod states;
+#[cfg(test)]
+mod tests;
 mod whole;
 mod window;
 

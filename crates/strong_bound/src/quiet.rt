@@ -3,12 +3,12 @@ ghost use Rattle.adpcm_nums.specs.Sample.{IsSample, AreSamples};
 ghost use Rattle.strong_bound.specs.Quiet.{twice_of, IsUnderStates};
 
 use crate::rests::fill_rests;
-use crate::states::{reach, under_states};
+use crate::states::{far_cost, under_states};
 use clamp_machine::ClampMachine;
 use machine_core::{HeadRule, State};
 
 /// What a list may count in a quiet window, at most.
-const QUIET: u64 = 256;
+const QUIET: u64 = 1024;
 
 /// How many places of a block are counted twice, the first ones.
 fn twice_of(samples: u32, leaving: bool) -> u32
@@ -50,7 +50,7 @@ fn under_head<M: ClampMachine>(
         return top;
     }
     let scale = windows.row.scale;
-    if top - floor > reach(scale) {
+    if top - floor > far_cost(scale) {
         return floor;
     }
     under_states(machine, head, targets, table, twice, scale, aim, nodes, top)
@@ -110,7 +110,7 @@ pub(crate) fn quiet_bound<M: ClampMachine>(
     requires targets { AreSamples targets.now }
     requires last { IsSample aim.a }
     requires older { IsSample aim.b }
-    ensures small { result ≤ 256 }
+    ensures small { result ≤ 1024 }
     ensures under { (head : ℕ) → head < (M.rules machine.now).decoder.heads → IsTrue ((M.rules machine.now).decoder.allows head rule)
         → IsUnderStates (M.rules machine.now).decoder aim targets.now (twice_of leaving (M.rules machine.now).decoder.samples) head result }
 {

@@ -2,19 +2,19 @@ ghost use Rattle.std.specs.Prelude.{◌≡◌, ◌⊎◌, ◌≤◌, ◌<◌, �
 ghost use Rattle.adpcm_nums.specs.Nums.{square_of};
 ghost use Rattle.adpcm_nums.specs.Sample.{IsSample, AreSamples};
 ghost use Rattle.machine_core.specs.Decoder.{cost_of};
-ghost use Rattle.strong_bound.specs.Quiet.{IsUnderSymbols, IsUnderLast, IsUnderStates, HoldsRests, IsNear};
+ghost use Rattle.strong_bound.specs.Quiet.{tried, far_cost, IsUnderSymbols, IsUnderLast, IsUnderStates, HoldsRests, IsNear};
 
 use crate::codes::least_from;
 use adpcm_nums::{floor_div, multiple};
 use clamp_machine::ClampMachine;
 use machine_core::State;
 
-/// What an output whose error is further from its target than that of the nearest six outputs costs, at least.
-pub(crate) fn reach(scale: i64) -> u64
+/// What an output costs, at least, that is further from a target than those that are tried.
+pub(crate) fn far_cost(scale: i64) -> u64
     requires { (scale ≡ pos 1) ⊎ (scale ≡ pos 2) }
-    ensures { result ≡ 36 * square_of scale }
+    ensures { result ≡ far_cost scale }
 {
-    if scale == 1 { 36 } else { 144 }
+    if scale == 1 { 400 } else { 1600 }
 }
 
 /// No more than what an output costs against a target.
@@ -27,13 +27,13 @@ pub(crate) fn missed(scale: i64, output: i32, target: i32) -> u64
     size.saturating_mul(size)
 }
 
-/// The first of thirteen outputs around a target.
+/// The first of the outputs that are tried around a target.
 fn first_near(scale: i64, target: i32) -> i32
     requires scale { (scale ≡ pos 1) ⊎ (scale ≡ pos 2) }
     requires target { IsSample target }
     ensures { IsNear scale target result }
 {
-    (floor_div(i64::from(target), scale) - 6) as i32
+    (floor_div(i64::from(target), scale) - 20) as i32
 }
 
 /// The first of the states around one, last output and older output.
@@ -86,7 +86,7 @@ fn under_state<M: ClampMachine>(
     )
 }
 
-/// The same from each of thirteen last outputs, behind one older output. `first` is the first of these states.
+/// The same from each of the last outputs around that of `aim`, behind one older output. `first` is the first of these states.
 fn under_last<M: ClampMachine>(
     machine: &M,
     head: u32,
@@ -108,10 +108,13 @@ fn under_last<M: ClampMachine>(
     requires low { negsuc 65535 ≤ℤ first.a }
     requires high { first.a ≤ℤ pos 65535 }
     ensures most { result ≤ top }
-    ensures under { IsUnderLast (M.rules machine.now).decoder targets.now twice head first aim paid 13 result }
+    ensures under { IsUnderLast (M.rules machine.now).decoder targets.now twice head first aim paid tried result }
 {
+    if paid.saturating_add(rests[0]) >= top {
+        return top;
+    }
     let mut least = top;
-    for step in 0..13u8 {
+    for step in 0..41u8 {
         let at = State {
             a: first.a + i32::from(step),
             b: first.b,
@@ -145,13 +148,13 @@ pub(crate) fn under_states<M: ClampMachine>(
     requires scale_is { scale ≡ pos (M.rules machine.now).decoder.scale }
     requires last { IsSample aim.a }
     requires older { IsSample aim.b }
-    requires near { top ≤ get_or rests.now 0 0 + 36 * square_of scale }
+    requires near { top ≤ get_or rests.now 0 0 + far_cost scale }
     ensures most { result ≤ top }
     ensures under { IsUnderStates (M.rules machine.now).decoder aim targets.now twice head result }
 {
     let corner = corner_of(scale, aim);
     let mut least = top;
-    for step in 0..13u8 {
+    for step in 0..41u8 {
         let first = State {
             a: corner.a,
             b: corner.b + i32::from(step),

@@ -6,3 +6,9 @@ pub mod Unders
 pub mod Lists
 pub mod Totals
 pub mod Leads
+pub mod SymbolCounts
+pub mod RestLaws
+pub mod NearOutputs
+pub mod StateLaws
+pub mod HeadLaws
+pub mod QuietWindows

@@ -1,6 +1,7 @@
 ghost use Rattle.std.specs.Prelude.{◌≡◌, ◌≤◌, ◌<◌, ◌+◌, ◌*◌, IsTrue, length};
-ghost use Rattle.adpcm_nums.specs.Sample.{AreSamples};
+ghost use Rattle.adpcm_nums.specs.Sample.{IsSample, AreSamples};
 
+use clamp_machine::ClampMachine;
 use linear_machine::LinearMachine;
 use machine_core::{HeadRule, State, rule_for};
 
@@ -73,4 +74,42 @@ pub(crate) fn block_lead<M: LinearMachine>(
     let first = block as usize * samples;
     let rule = rule_for(machine.kind(), loop_block, block);
     best_lead(machine, rule, &targets[first..first + samples], from)
+}
+
+/// The errors of the two outputs that a state holds.
+fn entering_cost<M: ClampMachine>(machine: &M, from: State, older: i32, last: i32) -> u64
+    requires from { IsTrue ((M.rules machine.now).decoder.is_state from) }
+    requires older { IsSample older }
+    requires last { IsSample last }
+{
+    let before = State {
+        a: from.b,
+        b: from.b,
+    };
+    let cost = machine.cost(from, last);
+    if machine.is_state(before) {
+        cost.saturating_add(machine.cost(before, older))
+    } else {
+        cost
+    }
+}
+
+/// What a list counts in a block's window, at most, that comes to the block in a state and goes on at this cost.
+pub(crate) fn window_cost<M: ClampMachine>(
+    machine: &M,
+    targets: &[i32],
+    block: u32,
+    from: State,
+    cost: u64,
+) -> u64
+    requires within { block * (M.rules machine.now).decoder.samples + (M.rules machine.now).decoder.samples ≤ length targets.now }
+    requires targets { AreSamples targets.now }
+    requires from { IsTrue ((M.rules machine.now).decoder.is_state from) }
+{
+    let first = block as usize * machine.block_samples() as usize;
+    let own = cost.saturating_mul(2);
+    if first < 2 {
+        return own;
+    }
+    own.saturating_add(entering_cost(machine, from, targets[first - 2], targets[first - 1]))
 }

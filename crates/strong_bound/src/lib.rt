@@ -5,9 +5,15 @@
 //! error of all blocks.
 #![tactic(auto)]
 
+mod codes;
 mod greedy;
 mod heads;
 mod laws;
+mod quiet;
+mod rests;
+mod states;
+#[cfg(test)]
+mod tests;
 mod whole;
 mod window;
 

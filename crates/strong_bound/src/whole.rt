@@ -3,7 +3,7 @@ ghost use Rattle.adpcm_nums.specs.Sample.{AreSamples};
 ghost use Rattle.machine_core.specs.Blocks.{Blocks, IsLegal, must_forget};
 ghost use Rattle.machine_core.specs.Sums.{sum_of};
 
-use crate::greedy::block_lead;
+use crate::greedy::{block_lead, window_cost};
 use crate::window::window_bound;
 use clamp_machine::ClampMachine;
 use machine_core::State;
@@ -32,8 +32,9 @@ pub fn strong_bound<M: ClampMachine>(
     let mut state = State { a: 0, b: 0 };
     for block in 0..blocks {
         let lead = block_lead(machine, loop_block, targets, block, state);
+        let top = window_cost(machine, targets, block, state, lead.cost);
         sum += window_bound(
-            machine, loop_block, lead.head, targets, blocks, block, nodes,
+            machine, loop_block, lead.head, top, targets, blocks, block, nodes,
         );
         state = lead.state;
     }

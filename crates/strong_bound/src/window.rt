@@ -5,8 +5,9 @@ ghost use Rattle.machine_core.specs.Sums.{cost_at};
 ghost use Rattle.strong_bound.specs.Counted.{counted, enters, is_left};
 
 use crate::heads::{Counting, block_bound_of};
+use crate::quiet::quiet_bound;
 use clamp_machine::ClampMachine;
-use machine_core::{HeadRule, rule_for};
+use machine_core::{HeadRule, State, rule_for};
 
 /// No window counts so much: at most 58 times 2^32.
 const TOP: u64 = 1 << 40;
@@ -72,8 +73,8 @@ fn leaving(blocks: u32, block: u32) -> bool
     block + 1 < blocks
 }
 
-/// A bound under what the window of a later block counts.
-fn later_bound<M: ClampMachine>(
+/// A bound under what the window of a later block counts, found by the search of rows.
+fn rows_bound<M: ClampMachine>(
     machine: &M,
     rule: HeadRule,
     near: u32,
@@ -103,11 +104,74 @@ fn later_bound<M: ClampMachine>(
     block_bound_of(machine, rule, near, window, counting, TOP)
 }
 
-/// A bound under what the window of a block counts of every legal list.
+/// A bound under what the window of a later block counts, found from each state before the block where the window is quiet.
+/// Before the second block the states are not counted, so none is left out, and they are too many.
+fn states_bound<M: ClampMachine>(
+    machine: &M,
+    rule: HeadRule,
+    top: u64,
+    targets: &[i32],
+    blocks: u32,
+    block: u32,
+    nodes: u64,
+) -> u64
+    requires some { 2 ≤ (M.rules machine.now).decoder.samples }
+    requires few { (M.rules machine.now).decoder.samples ≤ 28 }
+    requires later { 0 < block }
+    requires within { block < blocks }
+    requires count { length targets.now ≡ blocks * (M.rules machine.now).decoder.samples }
+    requires range { AreSamples targets.now }
+    ensures most { result ≤ 2 ^ 40 }
+    ensures below { (fixed : ℕ → Bool) (list : Blocks) → rule ≡ rule_of fixed block → IsLegal (M.rules machine.now).decoder blocks fixed list
+        → result ≤ counted (M.rules machine.now).decoder.samples (cost_at (M.rules machine.now).decoder list targets.now) blocks block }
+{
+    if entering(block) == 0 {
+        return 0;
+    }
+    let samples = machine.block_samples() as usize;
+    let from = block as usize * samples;
+    let own = &targets[from..from + samples];
+    let aim = State {
+        a: targets[from - 1],
+        b: targets[from - 2],
+    };
+    let leaving = leaving(blocks, block);
+    quiet_bound(machine, rule, aim, own, leaving, nodes, top)
+}
+
+/// A bound under what the window of a later block counts: the greater of both.
+fn later_bound<M: ClampMachine>(
+    machine: &M,
+    rule: HeadRule,
+    near: u32,
+    top: u64,
+    targets: &[i32],
+    blocks: u32,
+    block: u32,
+    nodes: u64,
+) -> u64
+    requires some { 2 ≤ (M.rules machine.now).decoder.samples }
+    requires few { (M.rules machine.now).decoder.samples ≤ 28 }
+    requires later { 0 < block }
+    requires within { block < blocks }
+    requires count { length targets.now ≡ blocks * (M.rules machine.now).decoder.samples }
+    requires range { AreSamples targets.now }
+    ensures most { result ≤ 2 ^ 40 }
+    ensures below { (fixed : ℕ → Bool) (list : Blocks) → rule ≡ rule_of fixed block → IsLegal (M.rules machine.now).decoder blocks fixed list
+        → result ≤ counted (M.rules machine.now).decoder.samples (cost_at (M.rules machine.now).decoder list targets.now) blocks block }
+{
+    let rows = rows_bound(machine, rule, near, targets, blocks, block, nodes);
+    let states = states_bound(machine, rule, top, targets, blocks, block, nodes);
+    rows.max(states)
+}
+
+/// A bound under what the window of a block counts of every legal list. The head `near` is tried first; `top` is best what
+/// a list is known to count there.
 pub(crate) fn window_bound<M: ClampMachine>(
     machine: &M,
     loop_block: Option<u32>,
     near: u32,
+    top: u64,
     targets: &[i32],
     blocks: u32,
     block: u32,
@@ -126,6 +190,6 @@ pub(crate) fn window_bound<M: ClampMachine>(
     if block == 0 {
         first_bound(machine, rule, near, targets, nodes)
     } else {
-        later_bound(machine, rule, near, targets, blocks, block, nodes)
+        later_bound(machine, rule, near, top, targets, blocks, block, nodes)
     }
 }

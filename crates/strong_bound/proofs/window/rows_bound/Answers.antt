@@ -2,7 +2,7 @@ use Rattle.std.proofs.Common.{◌+◌, ◌-◌, ◌*◌}
 use Rattle.std.specs.Prelude.{slice_range}
 use Rattle.strong_bound.proofs.BlockBounds.{counted-with}
 use Rattle.strong_bound.proofs.Lists.{later-targets}
-use Rattle.strong_bound.proofs.window.later_bound.Goals as goal
+use Rattle.strong_bound.proofs.window.rows_bound.Goals as goal
 
 pub returns-clause-below : goal.returns-clause-below
 returns-clause-below g c =

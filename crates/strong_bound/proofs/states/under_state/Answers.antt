@@ -1,0 +1,22 @@
+use Rattle.std.proofs.Common.{arith, ap, ◌≡◌, ◌∙◌, to_z, of_z, w32}
+use Rattle.std.specs.Prelude.{ℤ}
+use Rattle.std.proofs.lemmas.Int.{ints}
+use Rattle.machine_core.specs.Decoder.{cost_of}
+use Rattle.strong_bound.proofs.StateLaws.{entering-under}
+use Rattle.strong_bound.proofs.SymbolCounts.{under-more}
+use Rattle.strong_bound.proofs.states.under_state.Goals as goal
+
+pub returns-then-saturating_add-top-clause-under : goal.returns-then-saturating_add-top-clause-under
+returns-then-saturating_add-top-clause-under g c = λ fits.
+    let d = (g.M.Machine.rules c.args.machine.now).decoder in
+    let same : to_z w32 (of_z w32 c.args.aim.a) ≡ c.args.aim.a = omega (arith, ints, c.requires.aim.low, c.requires.aim.high) in
+    let cost = c.cost.ensures ∙ ap (λ (z : ℤ). cost_of d c.args.at z) same in
+    entering-under d c.args.targets.now c.args.twice c.args.head c.args.rests.now c.args.at c.args.paid (cost_of d c.args.at c.args.aim.a) c.saturating_add-entering.result c.saturating_add.result c.args.top c.requires.rests
+    (omega (arith, c.saturating_add-entering.ensures, cost)) (omega (arith, c.saturating_add.ensures)) c.if-saturating_add-top.true
+
+pub returns-clause-under : goal.returns-clause-under
+returns-clause-under g c = λ fits.
+    let d = (g.M.Machine.rules c.args.machine.now).decoder in
+    let same : to_z w32 (of_z w32 c.args.aim.a) ≡ c.args.aim.a = omega (arith, ints, c.requires.aim.low, c.requires.aim.high) in
+    let cost = c.cost.ensures ∙ ap (λ (z : ℤ). cost_of d c.args.at z) same in
+    under-more d c.args.targets.now c.args.twice c.args.head 0 c.args.at c.saturating_add-entering.result _ c.least_from.result c.least_from.result (omega (arith, c.saturating_add-entering.ensures, cost)) (omega arith) c.least_from.ensures.under

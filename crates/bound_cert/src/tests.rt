@@ -35,13 +35,28 @@ fn fault_of(bytes: &[u8]) -> Option<CertFault>
     }
 }
 
+// The first fault of so many bytes of `SHORTEST`.
+fn fault_of_front(len: usize) -> Option<CertFault> {
+    match len {
+        0..=3 => Some(CertFault::BadMagic),
+        4 => Some(CertFault::Short { at: 4 }),
+        5 => Some(CertFault::Short { at: 5 }),
+        6..=7 => Some(CertFault::Short { at: 6 }),
+        8..=9 => Some(CertFault::Short { at: 8 }),
+        10 => Some(CertFault::Short { at: 10 }),
+        11 => Some(CertFault::Short { at: 11 }),
+        12..=19 => Some(CertFault::Short { at: 12 }),
+        20..=23 => Some(CertFault::Short { at: 20 }),
+        _ => None,
+    }
+}
+
 #[test]
-fn the_shortest_certificate(rt: HostRuntime) {
-    assert_eq!(rt; fault_of(&SHORTEST), None);
-    assert_eq!(rt;
-        fault_of(&SHORTEST[..23]),
-        Some(CertFault::Short { at: 20 })
-    );
+fn every_front(rt: HostRuntime) {
+    for len in 0..25 {
+        let front = &SHORTEST[..len];
+        assert_eq!(rt; fault_of(front), fault_of_front(len), "at {len}");
+    }
     let mut longer = [0u8; 25];
     longer[..24].copy_from_slice(&SHORTEST);
     assert_eq!(rt; fault_of(&longer), Some(CertFault::Trailing { at: 24 }));

@@ -1,19 +1,14 @@
--- The decoder of SPU-ADPCM is a linear decoder; so its floors are below the cost of every continuation, and small.
-use Rattle.std.proofs.Common.{◌≡◌, ℕ, zero, suc, ◌-◌, ◌*◌, ◌^◌, ◌<◌, ◌≤◌, arith, refl, sym, ◌∙◌, inl, lit<}
-use Rattle.std.specs.Prelude.{ℤ, pos, List}
+-- The decoder of SPU-ADPCM is a linear decoder.
+use Rattle.std.proofs.Common.{◌≡◌, ℕ, zero, suc, ◌-◌, ◌<◌, arith, refl, sym, ◌∙◌, inl, lit<}
+use Rattle.std.specs.Prelude.{pos}
 use Rattle.std.proofs.lemmas.Int.{ints}
-use Rattle.adpcm_nums.specs.Sample.{AreSamples}
-use Rattle.machine_core.specs.declared.state.State.{State}
-use Rattle.machine_core.specs.Decoder.{miss}
-use Rattle.machine_core.specs.Rules.{tail_cost}
 use Rattle.window_floor.specs.Row.{IsNormed, size_of}
 use Rattle.window_floor.specs.Windows.{IsSound}
 use Rattle.linear_machine.specs.Linear.{IsLinear}
 use Rattle.linear_machine.specs.Laws.Codes.{sample-at, samples-fit}
-use Rattle.linear_machine.specs.Laws.FloorTruth.{floor-holds, floor-small}
-use Rattle.spu_machine.specs.Spu.{spu, sample_of, shift_of, filter_of}
+use Rattle.spu_machine.specs.Spu.{sample_of, shift_of, filter_of}
 use Rattle.spu_machine.specs.Rows.{spu_row}
-use Rattle.spu_machine.specs.Floors.{spu_windows, spu_linear, spu_floor}
+use Rattle.spu_machine.specs.Floors.{spu_windows, spu_linear}
 use Rattle.spu_machine.specs.Laws.Forgetting.{spu-steps}
 use Rattle.spu_machine.specs.Laws.Outcomes.{sample-fits, output-follows, output-free}
 
@@ -58,14 +53,3 @@ spu_is_linear = record {
   outcome = output-follows;
   free = λ head code o r h size. output-free head code o r h (free-filter (filter_of head) size) ∙ sym (sample-at (sample_of (shift_of head)) code (pos 0) h);
 }
-
--- the floor from a place on is at most what any codes cost there
-pub spu-floor-below : (head p : ℕ) (targets : List ℤ) (symbol : ℕ → ℕ) (at : State) → p < 28 → ((q : ℕ) → q < 28 → symbol q < 16)
-    → spu_floor head p targets ≤ tail_cost spu (miss spu targets) head symbol p at (28 - p)
-unfolding spu_floor
-spu-floor-below head p targets symbol at h fits = floor-holds spu_linear spu_is_linear head p targets symbol at (omega (arith, h)) fits
-
--- and far below what a sum of 64 bits holds
-pub spu-floor-fits : (head p : ℕ) (targets : List ℤ) → AreSamples targets → spu_floor head p targets ≤ 28 * 2 ^ 34
-unfolding spu_floor
-spu-floor-fits head p targets all = floor-small spu_linear spu_is_linear head p targets all

@@ -1,5 +1,5 @@
 -- The command `bound`: the stored files of a bank are compared with its sources, and no certificate is read.
-use Rattle.std.specs.Prelude.{⊤, ℕ, List, []}
+use Rattle.std.specs.Prelude.{ℕ, List}
 use Rattle.host_files.specs.Outside.{Files}
 use Rattle.machine_core.specs.Blocks.{Blocks}
 use Rattle.manifest_reader.specs.Meaning.{Content}
@@ -8,10 +8,10 @@ use Rattle.report_text.specs.declared.report.BoundReport.{BoundReport}
 use Rattle.report_text.specs.Report.{bound_line}
 use Rattle.report_text.specs.Listed.{report_of}
 use Rattle.command_plan.specs.Reading.{Reading}
-use Rattle.command_plan.specs.Read.{Read, as_reading, ◌>>=◌, read_all, written_under}
+use Rattle.command_plan.specs.Read.{Read, ◌>>=◌, read_all}
 use Rattle.tool_files.specs.declared.source.Source.{Source}
-use Rattle.tool_files.specs.Sources.{manifest_read, sources_read}
 use Rattle.tool_files.specs.Banks.{image_by, stored_read}
+use Rattle.tool_files.specs.Compared.{comparison}
 
 -- the list that is stored for each of these sources
 abbrev pub each_list : Files → Content → List Source → Image → Read (List Blocks)
@@ -25,13 +25,6 @@ lists_read files m sources = image_by m.kind files m >>= each_list files m sourc
 abbrev pub bound_text : List BoundReport → List ℕ
 bound_text reports = report_of bound_line reports 0
 
--- what is done for a manifest that was read: its sources are read, then what is stored for them, and then the report is said
-abbrev pub bound_bank : Files → Content → Read ⊤
-bound_bank files m = do
-  sources ← sources_read files m
-  lists ← lists_read files m sources
-  written_under []
-
 -- the manifest is read, then the files that it names and those that are stored, and then the report is said: the effort decides nothing
 abbrev pub bound_course : Files → List ℕ → Reading
-bound_course files manifest = as_reading (manifest_read files manifest >>= bound_bank files)
+bound_course files manifest = comparison lists_read files manifest

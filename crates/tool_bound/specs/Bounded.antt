@@ -1,7 +1,6 @@
 -- What `bound` promises and answers, in its own words: all of it is said of the stored files, whoever made them, of the sources and of the told numbers.
-use Rattle.std.specs.Prelude.{◌≡◌, ◌≤◌, false, ℕ, List, [], length, slice_get, Some, Ok}
-use Rattle.adpcm_nums.specs.Outcome.{Tells}
-use Rattle.host_files.specs.Outside.{World, Files, grown, raised}
+use Rattle.std.specs.Prelude.{◌≡◌, ◌≤◌, ℕ, List, length, slice_get, Some, Ok}
+use Rattle.host_files.specs.Outside.{World, Files}
 use Rattle.host_files.specs.declared.named_file.NamedFile.{NamedFile}
 use Rattle.machine_core.specs.declared.state.Kind.TheVariants.{Ima}
 use Rattle.machine_core.specs.Blocks.{Blocks, IsLegal}
@@ -14,11 +13,9 @@ use Rattle.bank_kinds.specs.Fits.{error_of, loop_shown}
 use Rattle.bank_kinds.specs.Bound.{IsBound}
 use Rattle.bank_bound.specs.Floor.{floor_of}
 use Rattle.command_plan.specs.declared.status.Status.{Status}
-use Rattle.command_plan.specs.declared.status.Status.TheVariants.{Done, Memory}
-use Rattle.command_plan.specs.Ending.{is_device}
 use Rattle.tool_files.specs.declared.source.Source.{Source}
-use Rattle.tool_files.specs.Sources.{manifest_read, sources_read}
 use Rattle.tool_files.specs.Banks.{image_by, stored_by}
+use Rattle.tool_files.specs.Compared.{IsToldOf, MaySay, AnswersCompared}
 use Rattle.tool_bound.specs.Bound.{each_list, bound_text, bound_course}
 
 -- the part that is said of one codec: this list is legal, this is its error, and this is a bound
@@ -66,39 +63,15 @@ pub record IsReported (files : Files) (m : Content) (sources : List Source) (rep
   pub image_is : (image_by m.kind files m).gives ≡ Ok image
   pub samples : AreBounded files m image sources reports
 
--- what is said of them: nothing is stored, and the report tells of each
-pub record IsSaid (files : Files) (m : Content) (sources : List Source) (writes : List NamedFile) (line : List ℕ) : Type 0 where
-  pub none : writes ≡ []
-  pub reports : List BoundReport
-  pub reported : IsReported files m sources reports
-  pub told : line ≡ bound_text reports
+-- a line that tells of each of these sources
+abbrev pub IsSaid : Files → Content → List Source → List ℕ → Type 0
+IsSaid files m sources line = IsToldOf (IsReported files m sources) bound_text line
 
 -- nothing is stored; this is the report that `bound` may say
-pub record MayBound (files : Files) (manifest : List ℕ) (writes : List NamedFile) (line : List ℕ) : Type 0 where
-  pub content : Content
-  pub meaning : (manifest_read files manifest).gives ≡ Ok content
-  pub sources : List Source
-  pub read : (sources_read files content).gives ≡ Ok sources
-  pub report : IsSaid files content sources writes line
+abbrev pub MayBound : Files → List ℕ → List NamedFile → List ℕ → Type 0
+MayBound files manifest writes line = MaySay (IsSaid files) files manifest writes line
 
--- what `bound` has done where it ends well; `held` are the files
-pub record HasBounded (held : Files) (manifest : List ℕ) (a b : World) : Type 0 where
-  -- what the manifest says, and the sources that it names, fitted to blocks
-  pub content : Content
-  pub meaning : (manifest_read held manifest).gives ≡ Ok content
-  pub sources : List Source
-  pub read : (sources_read held content).gives ≡ Ok sources
-  -- what is stored for each of them, its exact error, and a bound that no list of blocks is below
-  pub line : List ℕ
-  pub report : IsSaid held content sources [] line
-  -- exactly that was said
-  pub said : b.said ≡ grown a.said line
-  pub calls : b.calls ≡ raised (length (bound_course held manifest).calls) a.calls
-
--- what `bound` answers: r is the answer, from a to b
-pub record AnswersBound (held : Files) (manifest : List ℕ) (a b : World) (r : Status) : Type 0 where
-  -- whatever happens, the files are as they were
-  pub files : b.files ≡ a.files
-  pub done : r ≡ Done → HasBounded held manifest a b
-  -- where the host does not fail, the manifest, the sources and what is stored decide, unless there was no memory
-  pub outcome : is_device r ≡ false → Tells Memory r (bound_course held manifest).outcome
+-- what `bound` answers: r is the answer, from a to b; at `Done` it has told of each source what is stored for it, its exact error, and a bound
+-- that no list of blocks is below
+abbrev pub AnswersBound : Files → List ℕ → World → World → Status → Type 0
+AnswersBound held manifest a b r = AnswersCompared (IsSaid held) (bound_course held manifest) held manifest a b r

@@ -1,5 +1,5 @@
 -- The command `check`: the stored files of a bank are compared with its sources, and its certificates are tested.
-use Rattle.std.specs.Prelude.{⊤, ℕ, nat_lt, if◌then◌else◌, List, [], length, Result, Ok, Err}
+use Rattle.std.specs.Prelude.{ℕ, nat_lt, if◌then◌else◌, List, length, Result, Ok, Err}
 use Rattle.host_files.specs.Outside.{Files}
 use Rattle.machine_core.specs.Blocks.{Blocks}
 use Rattle.manifest_reader.specs.Meaning.{Content}
@@ -16,11 +16,11 @@ use Rattle.command_plan.specs.declared.status.Status.{Status}
 use Rattle.command_plan.specs.declared.status.Status.TheVariants.{Input, Refused}
 use Rattle.command_plan.specs.declared.input_fault.InputFault.TheVariants.{FileLong}
 use Rattle.command_plan.specs.Reading.{Reading}
-use Rattle.command_plan.specs.Read.{Read, as_reading, given, fetched_for, ◌>>=◌, read_all, written_under}
+use Rattle.command_plan.specs.Read.{Read, given, fetched_for, ◌>>=◌, read_all}
 use Rattle.tool_files.specs.declared.source.Source.{Source}
 use Rattle.tool_files.specs.Source.{front_in, or_told}
-use Rattle.tool_files.specs.Sources.{manifest_read, sources_read}
 use Rattle.tool_files.specs.Banks.{image_by, stored_read}
+use Rattle.tool_files.specs.Compared.{comparison}
 
 -- what the front of its certificate proves
 unfoldable pub proven_in : Content → Source → List ℕ → Result Proven Status
@@ -59,13 +59,6 @@ bank_read files m sources = do
 abbrev pub check_text : List SampleReport → List ℕ
 check_text reports = text_of sample_line reports 0
 
--- what is done for a manifest that was read: its sources are read, then what is stored for them, and then the report is said
-abbrev pub check_bank : Files → Content → Read ⊤
-check_bank files m = do
-  sources ← sources_read files m
-  reports ← bank_read files m sources
-  written_under []
-
 -- the manifest is read, then the files that it names and those that are stored, and then the report is said
 abbrev pub check_course : Files → List ℕ → Reading
-check_course files manifest = as_reading (manifest_read files manifest >>= check_bank files)
+check_course files manifest = comparison bank_read files manifest

@@ -1,7 +1,6 @@
 -- What `check` promises and answers, in its own words: all of it is said of the stored files, whoever made them, of the sources and of the told numbers.
-use Rattle.std.specs.Prelude.{◌≡◌, ◌≤◌, false, ℕ, List, [], length, slice_get, Some, Ok}
-use Rattle.adpcm_nums.specs.Outcome.{Tells}
-use Rattle.host_files.specs.Outside.{World, Files, content_of, grown, raised}
+use Rattle.std.specs.Prelude.{◌≡◌, ◌≤◌, ℕ, List, length, slice_get, Some, Ok}
+use Rattle.host_files.specs.Outside.{World, Files, content_of}
 use Rattle.host_files.specs.declared.named_file.NamedFile.{NamedFile}
 use Rattle.machine_core.specs.Blocks.{Blocks, IsLegal}
 use Rattle.manifest_reader.specs.Meaning.{Content}
@@ -14,11 +13,9 @@ use Rattle.bank_kinds.specs.Fits.{error_of, loop_shown}
 use Rattle.bank_kinds.specs.Bound.{IsBound}
 use Rattle.bank_kinds.specs.Certified.{IsCertified}
 use Rattle.command_plan.specs.declared.status.Status.{Status}
-use Rattle.command_plan.specs.declared.status.Status.TheVariants.{Done, Memory}
-use Rattle.command_plan.specs.Ending.{is_device}
 use Rattle.tool_files.specs.declared.source.Source.{Source}
-use Rattle.tool_files.specs.Sources.{manifest_read, sources_read}
 use Rattle.tool_files.specs.Banks.{image_by, stored_by}
+use Rattle.tool_files.specs.Compared.{IsToldOf, MaySay, AnswersCompared}
 use Rattle.tool_check.specs.Check.{bank_read, check_text, check_course}
 
 -- the part that is said of one codec and of a certificate's bytes: this list is legal, this is its error, and this is a bound
@@ -60,39 +57,15 @@ pub record IsReported (files : Files) (m : Content) (sources : List Source) (rep
   pub count : length reports ≡ length sources
   pub checked : AllChecked files m image sources reports
 
--- what is said of them: nothing is stored, and the report tells of each
-pub record IsCheck (files : Files) (m : Content) (sources : List Source) (writes : List NamedFile) (line : List ℕ) : Type 0 where
-  pub none : writes ≡ []
-  pub reports : List SampleReport
-  pub reported : IsReported files m sources reports
-  pub told : line ≡ check_text reports
+-- a line that tells of each of these sources
+abbrev pub IsCheck : Files → Content → List Source → List ℕ → Type 0
+IsCheck files m sources line = IsToldOf (IsReported files m sources) check_text line
 
 -- nothing is stored; this is the report that `check` may say
-pub record MayTell (files : Files) (manifest : List ℕ) (writes : List NamedFile) (line : List ℕ) : Type 0 where
-  pub content : Content
-  pub meaning : (manifest_read files manifest).gives ≡ Ok content
-  pub sources : List Source
-  pub read : (sources_read files content).gives ≡ Ok sources
-  pub check : IsCheck files content sources writes line
+abbrev pub MayTell : Files → List ℕ → List NamedFile → List ℕ → Type 0
+MayTell files manifest writes line = MaySay (IsCheck files) files manifest writes line
 
--- what `check` has done where it ends well; `held` are the files
-pub record HasChecked (held : Files) (manifest : List ℕ) (a b : World) : Type 0 where
-  -- what the manifest says, and the sources that it names, fitted to blocks
-  pub content : Content
-  pub meaning : (manifest_read held manifest).gives ≡ Ok content
-  pub sources : List Source
-  pub read : (sources_read held content).gives ≡ Ok sources
-  -- what is stored for each of them, its exact error, and the bound that its certificate shows
-  pub line : List ℕ
-  pub check : IsCheck held content sources [] line
-  -- exactly that was said
-  pub said : b.said ≡ grown a.said line
-  pub calls : b.calls ≡ raised (length (check_course held manifest).calls) a.calls
-
--- what `check` answers: r is the answer, from a to b
-pub record AnswersCheck (held : Files) (manifest : List ℕ) (a b : World) (r : Status) : Type 0 where
-  -- whatever happens, the files are as they were
-  pub files : b.files ≡ a.files
-  pub done : r ≡ Done → HasChecked held manifest a b
-  -- where the host does not fail, the manifest, the sources and what is stored decide, unless there was no memory
-  pub outcome : is_device r ≡ false → Tells Memory r (check_course held manifest).outcome
+-- what `check` answers: r is the answer, from a to b; at `Done` it has told of each source what is stored for it, its exact error, and the bound
+-- that its certificate shows
+abbrev pub AnswersCheck : Files → List ℕ → World → World → Status → Type 0
+AnswersCheck held manifest a b r = AnswersCompared (IsCheck held) (check_course held manifest) held manifest a b r

@@ -6,19 +6,19 @@ ghost use Rattle.command_plan.specs.Promise.{Reaches, Promises};
 ghost use Rattle.command_plan.specs.Read.{as_reading};
 ghost use Rattle.command_plan.specs.Reading.{status_of};
 ghost use Rattle.command_plan.specs.Steps.{Keeps, ReadsTo};
-ghost use Rattle.tool_check.specs.Check.{bank_read, check_bank, check_course};
+ghost use Rattle.tool_check.specs.Check.{bank_read, check_course};
 ghost use Rattle.tool_check.specs.Checked.{AnswersCheck, IsReported, MayTell};
 ghost use Rattle.tool_files.specs.Sources.{manifest_read};
+ghost use Rattle.tool_files.specs.Compared.{compared};
 ghost use Rattle.tool_files.specs.Ready.{IsReady};
 
 use crate::check_bank::check_samples;
-use adpcm_nums::NoMemory;
-use command_plan::{Status, finish, write_out};
+use command_plan::{Status, finish};
 use host_files::Host;
 use manifest_reader::Manifest;
-use report_text::{SampleReport, report_of};
+use report_text::SampleReport;
 use std::alloc::Global;
-use tool_files::{Source, fetch_image, fetch_manifest, fetch_sources};
+use tool_files::{Source, fetch_image, fetch_manifest, fetch_sources, say_report};
 
 /// The command `check MANIFEST`: fetches the manifest and the WAVE files that it names, compares what is stored for each with them, tests
 /// the stored certificates, and says the report.
@@ -57,19 +57,15 @@ fn come_stored<H: Host>(alloc: Global, host: &mut H, manifest: &Manifest) -> Sta
     requires ranges { InRanges (content_of manifest.now) }
     ensures keeps { Keeps (H.world host.old) (H.world host.new) result }
     ensures told { (files : Files) (name : List ℕ) → (H.world host.old).files ≡ Some files → (manifest_read files name).gives ≡ Ok (content_of manifest.now) →
-        Reaches (as_reading (check_bank files (content_of manifest.now))) (MayTell files name) (H.world host.old) (H.world host.new) result }
+        Reaches (as_reading (compared bank_read files (content_of manifest.now))) (MayTell files name) (H.world host.old) (H.world host.new) result }
 {
     let sources = match fetch_sources(alloc, host, manifest) {
         Ok(sources) => sources,
         Err(status) => return status,
     };
-    let reports = match fetch_reports(alloc, host, manifest, sources.as_slice()) {
-        Ok(reports) => reports,
-        Err(status) => return status,
-    };
-    match report_of(alloc, reports.as_slice(), 0) {
-        Ok(line) => write_out(alloc, host, &[], line.as_str()),
-        Err(NoMemory) => Status::Memory,
+    match fetch_reports(alloc, host, manifest, sources.as_slice()) {
+        Ok(reports) => say_report(alloc, host, reports.as_slice()),
+        Err(status) => status,
     }
 }
 

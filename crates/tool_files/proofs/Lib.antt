@@ -3,3 +3,4 @@ pub mod RoomSteps
 pub mod StoredReads
 pub mod Unwritten
 pub mod Pairs
+pub mod ComparedSteps

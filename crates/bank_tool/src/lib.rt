@@ -34,6 +34,6 @@ mod play_tests;
 #[cfg(test)]
 mod test_files;
 #[cfg(test)]
-mod test_words;
+mod test_host;
 #[cfg(test)]
 mod tests;

@@ -8,7 +8,7 @@ use clamp_machine::ClampMachine;
 use machine_core::{HeadRule, State};
 
 /// What a list may count in a quiet window, at most.
-const QUIET: u64 = 1024;
+const QUIET: u64 = 256;
 
 /// How many places of a block are counted twice, the first ones.
 fn twice_of(samples: u32, leaving: bool) -> u32
@@ -110,7 +110,7 @@ pub(crate) fn quiet_bound<M: ClampMachine>(
     requires targets { AreSamples targets.now }
     requires last { IsSample aim.a }
     requires older { IsSample aim.b }
-    ensures small { result ≤ 1024 }
+    ensures small { result ≤ 256 }
     ensures under { (head : ℕ) → head < (M.rules machine.now).decoder.heads → IsTrue ((M.rules machine.now).decoder.allows head rule)
         → IsUnderStates (M.rules machine.now).decoder aim targets.now (twice_of leaving (M.rules machine.now).decoder.samples) head result }
 {

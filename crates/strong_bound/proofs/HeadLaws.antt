@@ -9,7 +9,7 @@ use Rattle.window_floor.specs.declared.block.BlockWindows.{BlockWindows}
 use Rattle.window_floor.specs.Numbers.{StandFor, windows_of}
 use Rattle.window_floor.specs.Windows.{Windows, floor_from}
 use Rattle.linear_machine.specs.Linear.{Linear, IsLinear}
-use Rattle.strong_bound.specs.Quiet.{shortened, IsUnderSymbols, HoldsRests, IsUnderStates, entering_cost}
+use Rattle.strong_bound.specs.Quiet.{far_cost, shortened, IsUnderSymbols, HoldsRests, IsUnderStates, entering_cost}
 use Rattle.strong_bound.proofs.RestLaws.{rests-for}
 use Rattle.strong_bound.proofs.SymbolCounts.{rest-under, under-more}
 
@@ -72,3 +72,10 @@ head-rests l is d e w head same stand targets twice rests few front back =
     let samples = (l.windows head).samples in
     let places = places-are l is d e w head same in
     rests-for l is d e (windows_of w samples) targets twice head rests w.places few same (omega (arith, places)) (λ p h. front samples p stand h) (λ p h k. back samples p stand h k)
+
+-- where little is counted, all that may cost less is near
+pub near-enough : (scale : ℤ) (rest top : ℕ) → (scale ≡ pos 1) ⊎ (scale ≡ pos 2) → top ≤ 256 → top ≤ rest + far_cost scale
+near-enough scale rest top is few = elim is [
+  | inl w ↦ subst (λ (s : ℤ). top ≤ rest + far_cost s) (sym w) (omega (arith, few))
+  | inr w ↦ subst (λ (s : ℤ). top ≤ rest + far_cost s) (sym w) (omega (arith, few))
+]

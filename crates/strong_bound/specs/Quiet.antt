@@ -46,13 +46,13 @@ unfoldable pub IsUnderStates : Decoder → State → List ℤ → ℕ → ℕ �
 IsUnderStates d aim targets twice head bound =
     (at : State) → IsTrue (d.is_state at) → IsUnderSymbols d targets twice head 0 at (entering_cost d aim at) bound
 
--- how many outputs are tried around a target: the nearest twenty on each side and the one between
+-- how many outputs are tried around a target: the nearest sixteen on each side and the one between
 abbrev pub tried : ℕ
-tried = 41
+tried = 33
 
 -- what an output costs, at least, that is further from a target than those
 abbrev pub far_cost : ℤ → ℕ
-far_cost scale = 400 * square_of scale
+far_cost scale = 256 * square_of scale
 
 -- the outputs around a target begin with `first`
 pub record IsNear (scale target first : ℤ) : Type 0 where

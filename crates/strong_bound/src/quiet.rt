@@ -3,12 +3,12 @@ ghost use Rattle.adpcm_nums.specs.Sample.{IsSample, AreSamples};
 ghost use Rattle.strong_bound.specs.Quiet.{twice_of, IsUnderStates};
 
 use crate::rests::fill_rests;
-use crate::states::{far_cost, under_states};
+use crate::states::under_states;
 use clamp_machine::ClampMachine;
 use machine_core::{HeadRule, State};
 
 /// What a list may count in a quiet window, at most.
-const QUIET: u64 = 1024;
+const QUIET: u64 = 256;
 
 /// How many places of a block are counted twice, the first ones.
 fn twice_of(samples: u32, leaving: bool) -> u32
@@ -19,8 +19,7 @@ fn twice_of(samples: u32, leaving: bool) -> u32
     if leaving { samples - 2 } else { samples }
 }
 
-/// A bound, at most `top`, under what any codes count under a head, from whatever state: the least from the states near the
-/// targets, or the floor where too many states are near.
+/// A bound, at most `top`, under what any codes count under a head, from whatever state: that from the states near `aim`.
 fn under_head<M: ClampMachine>(
     machine: &M,
     head: u32,
@@ -40,19 +39,16 @@ fn under_head<M: ClampMachine>(
     requires older { IsSample aim.b }
     requires table { length table.old ≡ (M.rules machine.now).decoder.samples + 1 }
     requires front { length front.old ≡ twice + 1 }
+    requires top { top ≤ 256 }
     ensures most { result ≤ top }
     ensures under { IsUnderStates (M.rules machine.now).decoder aim targets.now twice head result }
 {
     let windows = machine.windows(head);
     fill_rests(windows, targets, twice as usize, table, front);
-    let floor = table[0];
-    if floor >= top {
+    if table[0] >= top {
         return top;
     }
     let scale = windows.row.scale;
-    if top - floor > far_cost(scale) {
-        return floor;
-    }
     under_states(machine, head, targets, table, twice, scale, aim, nodes, top)
 }
 
@@ -75,6 +71,7 @@ fn under_heads<M: ClampMachine>(
     requires older { IsSample aim.b }
     requires table { length table.old ≡ (M.rules machine.now).decoder.samples + 1 }
     requires front { length front.old ≡ twice + 1 }
+    requires top { top ≤ 256 }
     ensures most { result ≤ top }
     ensures under { (head : ℕ) → head < (M.rules machine.now).decoder.heads → IsTrue ((M.rules machine.now).decoder.allows head rule)
         → IsUnderStates (M.rules machine.now).decoder aim targets.now twice head result }
@@ -110,7 +107,7 @@ pub(crate) fn quiet_bound<M: ClampMachine>(
     requires targets { AreSamples targets.now }
     requires last { IsSample aim.a }
     requires older { IsSample aim.b }
-    ensures small { result ≤ 1024 }
+    ensures small { result ≤ 256 }
     ensures under { (head : ℕ) → head < (M.rules machine.now).decoder.heads → IsTrue ((M.rules machine.now).decoder.allows head rule)
         → IsUnderStates (M.rules machine.now).decoder aim targets.now (twice_of leaving (M.rules machine.now).decoder.samples) head result }
 {

@@ -9,14 +9,6 @@ use adpcm_nums::{floor_div, multiple};
 use clamp_machine::ClampMachine;
 use machine_core::State;
 
-/// What an output costs, at least, that is further from a target than those that are tried.
-pub(crate) fn far_cost(scale: i64) -> u64
-    requires { (scale ≡ pos 1) ⊎ (scale ≡ pos 2) }
-    ensures { result ≡ far_cost scale }
-{
-    if scale == 1 { 400 } else { 1600 }
-}
-
 /// No more than what an output costs against a target.
 pub(crate) fn missed(scale: i64, output: i32, target: i32) -> u64
     requires { (scale ≡ pos 1) ⊎ (scale ≡ pos 2) }
@@ -33,7 +25,7 @@ fn first_near(scale: i64, target: i32) -> i32
     requires target { IsSample target }
     ensures { IsNear scale target result }
 {
-    (floor_div(i64::from(target), scale) - 20) as i32
+    (floor_div(i64::from(target), scale) - 16) as i32
 }
 
 /// The first of the states around one, last output and older output.
@@ -114,7 +106,7 @@ fn under_last<M: ClampMachine>(
         return top;
     }
     let mut least = top;
-    for step in 0..41u8 {
+    for step in 0..33u8 {
         let at = State {
             a: first.a + i32::from(step),
             b: first.b,
@@ -154,7 +146,7 @@ pub(crate) fn under_states<M: ClampMachine>(
 {
     let corner = corner_of(scale, aim);
     let mut least = top;
-    for step in 0..41u8 {
+    for step in 0..33u8 {
         let first = State {
             a: corner.a,
             b: corner.b + i32::from(step),

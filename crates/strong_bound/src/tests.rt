@@ -27,7 +27,7 @@ fn ones(rt: HostRuntime) {
     let targets = [1; 16];
     let last = quiet_bound(&Brr, HeadRule::AnyHead, aim, &targets, false, 500, 100);
     let inner = quiet_bound(&Brr, HeadRule::AnyHead, aim, &targets, true, 500, 100);
-    let loud = quiet_bound(&Brr, HeadRule::AnyHead, aim, &targets, false, 500, 1025);
+    let loud = quiet_bound(&Brr, HeadRule::AnyHead, aim, &targets, false, 500, 257);
     assert_eq!(rt; last, 34);
     assert_eq!(rt; inner, 32);
     assert_eq!(rt; loud, 0);

@@ -1,5 +1,5 @@
 use Rattle.std.proofs.Common.{arith}
-use Rattle.strong_bound.proofs.HeadLaws.{places-are, scale-fits, scale-told, floor-under, head-rests}
+use Rattle.strong_bound.proofs.HeadLaws.{places-are, scale-fits, scale-told, floor-under, head-rests, near-enough}
 use Rattle.strong_bound.proofs.quiet.under_head.Goals as goal
 
 pub fill_rests-requires-clause-count : goal.fill_rests-requires-clause-count
@@ -20,24 +20,13 @@ fill_rests-requires-clause-table g c =
     let same = places-are (g.M.LinearMachine.linear c.args.machine.now) laws.0 (g.M.Machine.rules c.args.machine.now).decoder laws.1 c.windows-windows.result c.args.head c.windows-windows.ensures.windows in
     omega (arith, same, c.requires.table)
 
-pub returns-then-floor-top-clause-under : goal.returns-then-floor-top-clause-under
-returns-then-floor-top-clause-under g c =
+pub returns-then-table-top-clause-under : goal.returns-then-table-top-clause-under
+returns-then-table-top-clause-under g c =
     let d = (g.M.Machine.rules c.args.machine.now).decoder in
     let laws = g.met.M.LinearMachine.is_linear c.args.machine.now in
     let rests = head-rests (g.M.LinearMachine.linear c.args.machine.now) laws.0 d laws.1 c.windows-windows.result c.args.head c.windows-windows.ensures.windows c.windows-windows.ensures.samples
     c.args.targets.now c.args.twice c.fill_rests.new.table c.requires.twice c.fill_rests.ensures.front c.fill_rests.ensures.back in
-    floor-under d c.args.aim c.args.targets.now c.args.twice c.args.head c.fill_rests.new.table c.args.top rests c.if-floor-top.true
-
-pub far_cost-requires : goal.far_cost-requires
-far_cost-requires g c = scale-fits (g.M.LinearMachine.linear c.args.machine.now) (g.met.M.LinearMachine.is_linear c.args.machine.now).0 c.windows-windows.result c.args.head c.windows-windows.ensures.windows
-
-pub returns-then-top-floor-clause-under : goal.returns-then-top-floor-clause-under
-returns-then-top-floor-clause-under g c =
-    let d = (g.M.Machine.rules c.args.machine.now).decoder in
-    let laws = g.met.M.LinearMachine.is_linear c.args.machine.now in
-    let rests = head-rests (g.M.LinearMachine.linear c.args.machine.now) laws.0 d laws.1 c.windows-windows.result c.args.head c.windows-windows.ensures.windows c.windows-windows.ensures.samples
-    c.args.targets.now c.args.twice c.fill_rests.new.table c.requires.twice c.fill_rests.ensures.front c.fill_rests.ensures.back in
-    floor-under d c.args.aim c.args.targets.now c.args.twice c.args.head c.fill_rests.new.table _ rests (omega arith)
+    floor-under d c.args.aim c.args.targets.now c.args.twice c.args.head c.fill_rests.new.table c.args.top rests c.if-table-top.true
 
 pub under_states-requires-clause-rests : goal.under_states-requires-clause-rests
 under_states-requires-clause-rests g c =
@@ -53,3 +42,7 @@ pub under_states-requires-clause-scale_is : goal.under_states-requires-clause-sc
 under_states-requires-clause-scale_is g c =
     let laws = g.met.M.LinearMachine.is_linear c.args.machine.now in
     scale-told (g.M.LinearMachine.linear c.args.machine.now) laws.0 (g.M.Machine.rules c.args.machine.now).decoder laws.1 c.windows-windows.result c.args.head c.windows-windows.ensures.windows
+
+pub under_states-requires-clause-near : goal.under_states-requires-clause-near
+under_states-requires-clause-near g c =
+    near-enough _ _ c.args.top (scale-fits (g.M.LinearMachine.linear c.args.machine.now) (g.met.M.LinearMachine.is_linear c.args.machine.now).0 c.windows-windows.result c.args.head c.windows-windows.ensures.windows) c.requires.top

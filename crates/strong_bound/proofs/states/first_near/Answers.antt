@@ -16,5 +16,5 @@ returns c =
     let value = quotient ∙ ap (λ (z : ℤ). floor_of z (unsigned_abs c.args.scale)) from in
     let low = floor_above c.args.target (unsigned_abs c.args.scale) 32767 c.requires.target.low in
     let high = floor_below c.args.target (unsigned_abs c.args.scale) 32767 c.requires.target.high in
-    let first : to_z w32 (of_z w32 (to_z w64 (of_z w64 (to_z w64 (of_z w64 c.floor_div.result) -ℤ pos 20)))) ≡ c.floor_div.result -ℤ pos 20 = omega (arith, ints, value, low, high) in
+    let first : to_z w32 (of_z w32 (to_z w64 (of_z w64 (to_z w64 (of_z w64 c.floor_div.result) -ℤ pos 16)))) ≡ c.floor_div.result -ℤ pos 16 = omega (arith, ints, value, low, high) in
     are-near c.args.scale c.args.target c.floor_div.result _ c.requires.scale value low high first

@@ -16,14 +16,7 @@ use std::alloc::Global;
 pub fn zeros(alloc: Global, n: usize) -> Result<Vec<u64>, NoMemory>
     ensures { IfOk result (λ v. length v.items ≡ n) }
 {
-    let mut numbers = Vec::new(alloc);
-    for k in 0..n {
-        match numbers.push(0) {
-            Ok(_) => {}
-            Err(_) => return Err(NoMemory),
-        }
-    }
-    Ok(numbers)
+    vec![in alloc; 0u64; n].map_err(|_| NoMemory)
 }
 
 /// The segment's least list where the certificate is of level 0 and shows that the best so far is not the least; else the best so far.

@@ -37,15 +37,15 @@ build/adbank: $(SOURCES)
 	@cp crates/adbank/out/adbank $@
 
 # Three sounds become a bank of each format; each bank is checked, one sound of each plays, and the banks are taken apart
-# again; a number's sounds are compiled, and one period of a sine becomes one block.
+# again; of short turns the best blocks are found, a number's sounds are compiled, and one period of a sine becomes one block.
 demo: build/adbank
 	@mkdir -p build/demo
-	@cp examples/bank.toml examples/playstation.toml examples/wave.toml examples/*.wav build/demo
+	@cp examples/bank.toml examples/playstation.toml examples/wave.toml examples/turns.toml examples/*.wav build/demo
 	@sh examples/sine.sh >build/demo/sine.raw
 	@cd build/demo; for words in 'compile bank.toml' 'check bank.toml' 'bound bank.toml 500' 'play brr bank.img 2 12' 'decompile brr bank.img bank' \
 	    'compile playstation.toml' 'check playstation.toml' 'bound playstation.toml 500' 'play vag playstation.pluck.vag 0 12' \
 	    'decompile vag playstation.pluck.vag pluck' 'compile wave.toml' 'check wave.toml' 'play ima wave.vowel.wav 0 12' \
-	    'decompile ima wave.vowel.wav vowel' 'make 0' 'block sine.raw sine.brr'; do \
+	    'decompile ima wave.vowel.wav vowel' 'compile turns.toml' 'check turns.toml' 'make 0' 'block sine.raw sine.brr'; do \
 	  echo "$$ adbank $$words"; ../adbank $$words; done
 	@echo 'Sources, the banks, the first passes, the certificates, what was taken apart and the block lie in build/demo.'
 

@@ -95,11 +95,12 @@ class Growths(unittest.TestCase):
         return {**files, **stored}
 
     def test_banks(self):
-        """Every bank is compiled, checked, and one of its files taken apart and played."""
+        """Every bank is compiled, checked and bounded, and one of its files taken apart and played."""
         for name, files in BANKS.items():
             with self.subTest(bank=name):
                 after = self.try_all(files, ["compile", "m.toml"])
                 self.try_all(after, ["check", "m.toml"])
+                self.try_all(after, ["bound", "m.toml", "20"])
                 form, file = {"b": ("brr", "x.img"), "s": ("vag", "x.img.s0.vag"), "i": ("ima", "x.img.s0.wav")}[self.form_of(files)]
                 self.try_all(after, ["decompile", form, file, "out"])
                 self.try_all(after, ["play", form, file, "0", "40"])

@@ -9,7 +9,7 @@ use Rattle.window_floor.specs.declared.block.BlockWindows.{BlockWindows}
 use Rattle.window_floor.specs.Numbers.{StandFor, windows_of}
 use Rattle.window_floor.specs.Windows.{Windows, floor_from}
 use Rattle.linear_machine.specs.Linear.{Linear, IsLinear}
-use Rattle.strong_bound.specs.Quiet.{far_cost, shortened, IsUnderSymbols, HoldsRests, IsUnderStates, entering_cost}
+use Rattle.strong_bound.specs.Quiet.{far_cost, shortened, IsUnderSymbols, HoldsRests, IsUnderStates, IsUnderEntry, entering_cost}
 use Rattle.strong_bound.proofs.RestLaws.{rests-for}
 use Rattle.strong_bound.proofs.SymbolCounts.{rest-under, under-more}
 
@@ -42,7 +42,12 @@ scale-told l is d e w head same = small w.row.scale (is-scale l is w head same) 
 -- a bound under the floors alone
 pub floor-under : (d : Decoder) (aim : State) (targets : List ℤ) (twice head : ℕ) (rests : List ℕ) (bound : ℕ) → HoldsRests d targets twice head rests → bound ≤ get_or rests 0 0 → IsUnderStates d aim targets twice head bound
 unfolding IsUnderStates
-floor-under d aim targets twice head rests bound holds low = λ at fits. rest-under d targets twice head rests 0 at (entering_cost d aim at) bound holds (omega arith) (omega (arith, low))
+floor-under d aim targets twice head rests bound holds low = λ at fits. rest-under d targets twice head rests 0 at (entering_cost d aim at) bound holds (omega arith) fits (omega (arith, low))
+
+-- the entry at a block's begin
+pub entry-under : (d : Decoder) (aim : State) (targets : List ℤ) (twice head bound : ℕ) → IsUnderEntry d (record { place = 0; aim = aim; last = 1; older = 1 }) targets twice head bound → IsUnderStates d aim targets twice head bound
+unfolding IsUnderStates IsUnderEntry
+entry-under d aim targets twice head bound under = λ at fits. under-more d targets twice head 0 at _ (entering_cost d aim at) bound bound (omega arith) (omega arith) (under at fits)
 
 -- a lower bound
 pub states-less : (d : Decoder) (aim : State) (targets : List ℤ) (twice head bound less : ℕ) → less ≤ bound → IsUnderStates d aim targets twice head bound → IsUnderStates d aim targets twice head less

@@ -11,4 +11,5 @@ pub mod RestLaws
 pub mod NearOutputs
 pub mod StateLaws
 pub mod HeadLaws
+pub mod SuffixLaws
 pub mod QuietWindows

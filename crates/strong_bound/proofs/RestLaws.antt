@@ -9,7 +9,7 @@ use Rattle.machine_core.specs.Rules.{tail_cost}
 use Rattle.window_floor.specs.Windows.{Windows, IsSound, floor_from}
 use Rattle.linear_machine.specs.Linear.{Linear, IsLinear}
 use Rattle.linear_machine.specs.Laws.FloorTruth.{floor-holds}
-use Rattle.strong_bound.specs.Quiet.{count_from, IsUnderSymbols, HoldsRests, shortened}
+use Rattle.strong_bound.specs.Quiet.{count_from, IsUnderSymbols, IsUnderRest, HoldsRests, shortened}
 
 -- the decoder of the first m samples of each block
 first_samples : Decoder → ℕ → Decoder
@@ -57,8 +57,8 @@ pub rests-hold : (l : Linear) → IsLinear l → (w : Windows) (targets : List �
     → ((p : ℕ) → p ≤ twice → get_or rests p 0 ≤ floor_from w targets p + floor_from (shortened w twice) (take twice targets) p)
     → ((p : ℕ) → twice < p → p ≤ l.decoder.samples → get_or rests p 0 ≤ floor_from w targets p)
     → HoldsRests l.decoder targets twice head rests
-unfolding HoldsRests IsUnderSymbols count_from
-rests-hold l is w targets twice head rests few same front back = λ p at h symbol are.
+unfolding HoldsRests IsUnderRest IsUnderSymbols count_from
+rests-hold l is w targets twice head rests few same front back = λ p h at state symbol are.
     let fits : (q : ℕ) → q < l.decoder.samples → symbol q < 16 = λ q within. subst (λ (z : ℕ). symbol q < z) (is.codes q within) (are q within) in
     let whole = subst (λ (b : Windows). floor_from b targets p ≤ tail_cost l.decoder (miss l.decoder targets) head symbol p at (l.decoder.samples - p)) (sym same) (floor-holds l is head p targets symbol at h fits) in
     elim (cases_lt twice p) [

@@ -1,12 +1,12 @@
 -- What the codes of a block count from a place on, one step after another.
-use Rattle.std.proofs.Common.{◌≡◌, ℕ, suc, ◌+◌, ◌-◌, ◌*◌, ◌<◌, ◌≤◌, arith, ap, sym, subst, ◌∙◌, inl, inr, List, get_or, nat_lt, true, false}
+use Rattle.std.proofs.Common.{◌≡◌, ℕ, suc, ◌+◌, ◌-◌, ◌*◌, ◌<◌, ◌≤◌, arith, ap, sym, subst, ◌∙◌, inl, inr, IsTrue, List, get_or, nat_lt, true, false}
 use Rattle.std.specs.Prelude.{ℤ, pos}
 use Rattle.std.proofs.lemmas.Bool.{cases_lt, cond-true, cond-false}
 use Rattle.std.proofs.lemmas.Bool.Decides.{nat_tests}
 use Rattle.machine_core.specs.declared.state.State.{State}
 use Rattle.machine_core.specs.Decoder.{Decoder, cost_of, miss}
-use Rattle.machine_core.specs.Rules.{tail_cost}
-use Rattle.strong_bound.specs.Quiet.{times_at, AreSymbols, count_from, IsUnderSymbols, HoldsRests}
+use Rattle.machine_core.specs.Rules.{Rules, IsMachine, tail_cost}
+use Rattle.strong_bound.specs.Quiet.{times_at, AreSymbols, count_from, IsUnderSymbols, IsUnderRest, HoldsRests}
 
 -- the costs of some places, of which the first is told
 tail-step : (d : Decoder) (targets : List ℤ) (head : ℕ) (symbol : ℕ → ℕ) (p : ℕ) (at : State) (n : ℕ) → p < n
@@ -32,7 +32,7 @@ sums-once : (x y c r s t : ℕ) → x ≡ c + r → y ≡ 0 → s ≡ 0 → t �
 sums-once x y c r s t e g f h = let k : t * c ≡ 1 * c = ap (λ z. z * c) h in omega (arith, e, g, f, k)
 
 -- what a place counts, and what comes behind it
-count-step : (d : Decoder) (targets : List ℤ) (twice head : ℕ) (symbol : ℕ → ℕ) (p : ℕ) (at : State) → p < d.samples
+pub count-step : (d : Decoder) (targets : List ℤ) (twice head : ℕ) (symbol : ℕ → ℕ) (p : ℕ) (at : State) → p < d.samples
     → count_from d targets twice head symbol p at ≡ times_at twice p * cost_of d (d.step head p (symbol p) at) (get_or targets p (pos 0)) + count_from d targets twice head symbol (p + 1) (d.step head p (symbol p) at)
 unfolding count_from
 count-step d targets twice head symbol p at h = elim (cases_lt p twice) [
@@ -76,10 +76,14 @@ unfolding IsUnderFirst IsUnderSymbols
 first-all d targets twice head p at paid n bound h all under = λ symbol are. (let k = are p h in under symbol are (omega (arith, k, all)))
 
 -- what is known of the rest bounds what is not gone on with
-pub rest-under : (d : Decoder) (targets : List ℤ) (twice head : ℕ) (rests : List ℕ) (p : ℕ) (at : State) (paid bound : ℕ) → HoldsRests d targets twice head rests → p ≤ d.samples → bound ≤ paid + get_or rests p 0
+pub rest-under : (d : Decoder) (targets : List ℤ) (twice head : ℕ) (rests : List ℕ) (p : ℕ) (at : State) (paid bound : ℕ) → HoldsRests d targets twice head rests → p ≤ d.samples → IsTrue (d.is_state at) → bound ≤ paid + get_or rests p 0
     → IsUnderSymbols d targets twice head p at paid bound
-unfolding HoldsRests IsUnderSymbols
-rest-under d targets twice head rests p at paid bound holds h low = λ symbol are. (let k = holds p at h symbol are in omega (arith, k, low))
+unfolding HoldsRests IsUnderRest IsUnderSymbols
+rest-under d targets twice head rests p at paid bound holds h fits low = λ symbol are. (let k = holds p h at fits symbol are in omega (arith, k, low))
+
+-- a step's state
+pub steps-to : (r : Rules) → IsMachine r → (head p symbol : ℕ) (at next : State) → next ≡ r.decoder.step head p symbol at → head < r.decoder.heads → p < r.decoder.samples → symbol < r.decoder.symbols p → IsTrue (r.decoder.is_state at) → IsTrue (r.decoder.is_state next)
+steps-to r laws head p symbol at next e head_fits within symbol_fits fits = subst (λ (s : State). IsTrue (r.decoder.is_state s)) (sym e) (laws.steps head p symbol at head_fits within symbol_fits fits)
 
 -- a lower bound, or more that was counted before
 pub under-more : (d : Decoder) (targets : List ℤ) (twice head p : ℕ) (at : State) (paid all bound less : ℕ) → paid ≤ all → less ≤ bound → IsUnderSymbols d targets twice head p at paid bound → IsUnderSymbols d targets twice head p at all less

@@ -5,6 +5,7 @@ use Rattle.machine_core.specs.declared.state.State.{State}
 use Rattle.machine_core.specs.Decoder.{Decoder, cost_of, miss}
 use Rattle.machine_core.specs.Rules.{tail_cost}
 use Rattle.window_floor.specs.Windows.{Windows}
+use Rattle.strong_bound.specs.declared.states.Entry.{Entry}
 
 -- how many places of a block of n are counted twice, the first ones: all but the last two where the next block counts those again
 abbrev pub twice_of : Bool → ℕ → ℕ
@@ -28,18 +29,32 @@ unfoldable pub IsUnderSymbols : Decoder → List ℤ → ℕ → ℕ → ℕ →
 IsUnderSymbols d targets twice head p at paid bound =
     (symbol : ℕ → ℕ) → AreSymbols d symbol → bound ≤ paid + count_from d targets twice head symbol p at
 
--- a list holds at each place a bound under what any symbols count from there on, whatever the state
+-- a bound is at most what any symbols count from place p on, from whatever state
+unfoldable pub IsUnderRest : Decoder → List ℤ → ℕ → ℕ → ℕ → ℕ → Type 0
+IsUnderRest d targets twice head p bound = (at : State) → IsTrue (d.is_state at) → IsUnderSymbols d targets twice head p at 0 bound
+
+-- a list holds such a bound at each place
 unfoldable pub HoldsRests : Decoder → List ℤ → ℕ → ℕ → List ℕ → Type 0
-HoldsRests d targets twice head rests = (p : ℕ) (at : State) → p ≤ d.samples → IsUnderSymbols d targets twice head p at 0 (get_or rests p 0)
+HoldsRests d targets twice head rests = (p : ℕ) → p ≤ d.samples → IsUnderRest d targets twice head p (get_or rests p 0)
 
 -- the errors of the two outputs before a block, against the state that would meet their targets
 abbrev pub entering_cost : Decoder → State → State → ℕ
 entering_cost d aim at = square_of (pos d.scale *ℤ at.b -ℤ aim.b) + cost_of d at aim.a
 
+-- the errors of the two outputs before a place, each counted as often as the entry says
+abbrev pub pair_cost : Decoder → Entry → State → ℕ
+pair_cost d entry at = entry.older * square_of (pos d.scale *ℤ at.b -ℤ entry.aim.b) + entry.last * cost_of d at entry.aim.a
+
 -- a bound is at most what any symbols count from the first n states whose last outputs follow that of `first`, with the error of the last output
-unfoldable pub IsUnderLast : Decoder → List ℤ → ℕ → ℕ → State → State → ℕ → ℕ → ℕ → Type 0
-IsUnderLast d targets twice head first aim paid n bound =
-    (at : State) → IsTrue (d.is_state at) → at.b ≡ first.b → first.a ≤ℤ at.a → at.a <ℤ (first.a +ℤ pos n) → IsUnderSymbols d targets twice head 0 at (paid + cost_of d at aim.a) bound
+unfoldable pub IsUnderLast : Decoder → List ℤ → ℕ → ℕ → State → Entry → ℕ → ℕ → ℕ → Type 0
+IsUnderLast d targets twice head first entry paid n bound =
+    (at : State) → IsTrue (d.is_state at) → at.b ≡ first.b → first.a ≤ℤ at.a → at.a <ℤ (first.a +ℤ pos n)
+    → IsUnderSymbols d targets twice head entry.place at (paid + entry.last * cost_of d at entry.aim.a) bound
+
+-- a bound is at most what any symbols count under a head from a place on, from whatever state, with the errors of the two outputs before the place
+unfoldable pub IsUnderEntry : Decoder → Entry → List ℤ → ℕ → ℕ → ℕ → Type 0
+IsUnderEntry d entry targets twice head bound =
+    (at : State) → IsTrue (d.is_state at) → IsUnderSymbols d targets twice head entry.place at (pair_cost d entry at) bound
 
 -- a bound is at most what any symbols of a block count under a head, from whatever state, with the errors of the two outputs before the block
 unfoldable pub IsUnderStates : Decoder → State → List ℤ → ℕ → ℕ → ℕ → Type 0

@@ -12,6 +12,7 @@ mod laws;
 mod quiet;
 mod rests;
 mod states;
+mod suffixes;
 #[cfg(test)]
 mod tests;
 mod whole;

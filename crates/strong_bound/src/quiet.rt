@@ -3,7 +3,8 @@ ghost use Rattle.adpcm_nums.specs.Sample.{IsSample, AreSamples};
 ghost use Rattle.strong_bound.specs.Quiet.{twice_of, IsUnderStates};
 
 use crate::rests::fill_rests;
-use crate::states::under_states;
+use crate::states::{Entry, under_states};
+use crate::suffixes::raise_rests;
 use clamp_machine::ClampMachine;
 use machine_core::{HeadRule, State};
 
@@ -32,6 +33,8 @@ fn under_head<M: ClampMachine>(
     front: &mut [u64],
 ) -> u64
     requires head { head < (M.rules machine.now).decoder.heads }
+    requires some { 2 ≤ (M.rules machine.now).decoder.samples }
+    requires few { (M.rules machine.now).decoder.samples ≤ 28 }
     requires count { length targets.now ≡ (M.rules machine.now).decoder.samples }
     requires targets { AreSamples targets.now }
     requires twice { twice ≤ (M.rules machine.now).decoder.samples }
@@ -49,7 +52,16 @@ fn under_head<M: ClampMachine>(
         return top;
     }
     let scale = windows.row.scale;
-    under_states(machine, head, targets, table, twice, scale, aim, nodes, top)
+    raise_rests(machine, head, targets, twice, scale, nodes, top, table);
+    let entry = Entry {
+        place: 0,
+        aim,
+        last: 1,
+        older: 1,
+    };
+    under_states(
+        machine, head, targets, table, twice, scale, entry, nodes, top,
+    )
 }
 
 /// The same under each head that the rule allows, with room for the tables lent.
@@ -64,6 +76,8 @@ fn under_heads<M: ClampMachine>(
     table: &mut [u64],
     front: &mut [u64],
 ) -> u64
+    requires some { 2 ≤ (M.rules machine.now).decoder.samples }
+    requires few { (M.rules machine.now).decoder.samples ≤ 28 }
     requires count { length targets.now ≡ (M.rules machine.now).decoder.samples }
     requires targets { AreSamples targets.now }
     requires twice { twice ≤ (M.rules machine.now).decoder.samples }

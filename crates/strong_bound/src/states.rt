@@ -2,12 +2,25 @@ ghost use Rattle.std.specs.Prelude.{◌≡◌, ◌⊎◌, ◌≤◌, ◌<◌, �
 ghost use Rattle.adpcm_nums.specs.Nums.{square_of};
 ghost use Rattle.adpcm_nums.specs.Sample.{IsSample, AreSamples};
 ghost use Rattle.machine_core.specs.Decoder.{cost_of};
-ghost use Rattle.strong_bound.specs.Quiet.{tried, far_cost, IsUnderSymbols, IsUnderLast, IsUnderStates, HoldsRests, IsNear};
+ghost use Rattle.strong_bound.specs.Quiet.{tried, far_cost, IsUnderSymbols, IsUnderLast, IsUnderEntry, HoldsRests, IsNear};
 
 use crate::codes::least_from;
 use adpcm_nums::{floor_div, multiple};
 use clamp_machine::ClampMachine;
 use machine_core::State;
+
+/// How codes are gone on with from a state.
+#[derive(Clone, Copy)]
+pub(crate) struct Entry {
+    /// The place behind the state's two outputs.
+    pub place: u32,
+    /// The outputs that would meet their targets.
+    pub aim: State,
+    /// How often the error of the last output is counted.
+    pub last: u64,
+    /// How often the error of the output before it is counted.
+    pub older: u64,
+}
 
 /// No more than what an output costs against a target.
 pub(crate) fn missed(scale: i64, output: i32, target: i32) -> u64
@@ -42,8 +55,8 @@ fn corner_of(scale: i64, aim: State) -> State
     }
 }
 
-/// A bound, at most `top`, under what any codes count from a state, where it is one, with the error of its last output
-/// against that of `aim`, on top of what was counted before.
+/// A bound, at most `top`, under what any codes count from a state, where it is one, with the error of its last output,
+/// on top of what was counted before.
 fn under_state<M: ClampMachine>(
     machine: &M,
     head: u32,
@@ -51,7 +64,7 @@ fn under_state<M: ClampMachine>(
     rests: &[u64],
     twice: u32,
     at: State,
-    aim: State,
+    entry: Entry,
     paid: u64,
     nodes: u64,
     top: u64,
@@ -61,24 +74,35 @@ fn under_state<M: ClampMachine>(
     requires targets { AreSamples targets.now }
     requires size { length rests.now ≡ (M.rules machine.now).decoder.samples + 1 }
     requires rests { HoldsRests (M.rules machine.now).decoder targets.now twice head rests.now }
-    requires aim { IsSample aim.a }
+    requires place { entry.place ≤ (M.rules machine.now).decoder.samples }
+    requires aim { IsSample entry.aim.a }
     ensures most { result ≤ top }
-    ensures under { IsTrue ((M.rules machine.now).decoder.is_state at) → IsUnderSymbols (M.rules machine.now).decoder targets.now twice head 0 at (paid + cost_of (M.rules machine.now).decoder at aim.a) result }
+    ensures under { IsTrue ((M.rules machine.now).decoder.is_state at) → IsUnderSymbols (M.rules machine.now).decoder targets.now twice head entry.place at (paid + entry.last * cost_of (M.rules machine.now).decoder at entry.aim.a) result }
 {
     if !machine.is_state(at) {
         return top;
     }
-    let entering = paid.saturating_add(machine.cost(at, aim.a));
-    if entering.saturating_add(rests[0]) >= top {
+    let cost = machine.cost(at, entry.aim.a);
+    let entering = paid.saturating_add(entry.last.saturating_mul(cost));
+    if entering.saturating_add(rests[entry.place as usize]) >= top {
         return top;
     }
     let mut left = nodes;
     least_from(
-        machine, head, targets, rests, twice, 0, at, entering, top, &mut left,
+        machine,
+        head,
+        targets,
+        rests,
+        twice,
+        entry.place,
+        at,
+        entering,
+        top,
+        &mut left,
     )
 }
 
-/// The same from each of the last outputs around that of `aim`, behind one older output. `first` is the first of these states.
+/// The same from each of the last outputs around its target, behind one older output. `first` is the first of these states.
 fn under_last<M: ClampMachine>(
     machine: &M,
     head: u32,
@@ -86,7 +110,7 @@ fn under_last<M: ClampMachine>(
     rests: &[u64],
     twice: u32,
     first: State,
-    aim: State,
+    entry: Entry,
     paid: u64,
     nodes: u64,
     top: u64,
@@ -96,13 +120,14 @@ fn under_last<M: ClampMachine>(
     requires targets { AreSamples targets.now }
     requires size { length rests.now ≡ (M.rules machine.now).decoder.samples + 1 }
     requires rests { HoldsRests (M.rules machine.now).decoder targets.now twice head rests.now }
-    requires aim { IsSample aim.a }
+    requires place { entry.place ≤ (M.rules machine.now).decoder.samples }
+    requires aim { IsSample entry.aim.a }
     requires low { negsuc 65535 ≤ℤ first.a }
     requires high { first.a ≤ℤ pos 65535 }
     ensures most { result ≤ top }
-    ensures under { IsUnderLast (M.rules machine.now).decoder targets.now twice head first aim paid tried result }
+    ensures under { IsUnderLast (M.rules machine.now).decoder targets.now twice head first entry paid tried result }
 {
-    if paid.saturating_add(rests[0]) >= top {
+    if paid.saturating_add(rests[entry.place as usize]) >= top {
         return top;
     }
     let mut least = top;
@@ -112,14 +137,14 @@ fn under_last<M: ClampMachine>(
             b: first.b,
         };
         least = under_state(
-            machine, head, targets, rests, twice, at, aim, paid, nodes, least,
+            machine, head, targets, rests, twice, at, entry, paid, nodes, least,
         );
     }
     least
 }
 
-/// A bound, at most `top`, under what any codes count from whatever state, with the errors of its two outputs against those
-/// of `aim`. States further off come to `top` by their errors and the floors alone.
+/// A bound, at most `top`, under what any codes count from whatever state, with the errors of its two outputs. States
+/// further off come to `top` by their errors and the floors alone.
 pub(crate) fn under_states<M: ClampMachine>(
     machine: &M,
     head: u32,
@@ -127,7 +152,7 @@ pub(crate) fn under_states<M: ClampMachine>(
     rests: &[u64],
     twice: u32,
     scale: i64,
-    aim: State,
+    entry: Entry,
     nodes: u64,
     top: u64,
 ) -> u64
@@ -138,22 +163,26 @@ pub(crate) fn under_states<M: ClampMachine>(
     requires rests { HoldsRests (M.rules machine.now).decoder targets.now twice head rests.now }
     requires scale { (scale ≡ pos 1) ⊎ (scale ≡ pos 2) }
     requires scale_is { scale ≡ pos (M.rules machine.now).decoder.scale }
-    requires last { IsSample aim.a }
-    requires older { IsSample aim.b }
-    requires near { top ≤ get_or rests.now 0 0 + far_cost scale }
+    requires place { entry.place ≤ (M.rules machine.now).decoder.samples }
+    requires last { IsSample entry.aim.a }
+    requires older { IsSample entry.aim.b }
+    requires counted { 1 ≤ entry.last }
+    requires once { 1 ≤ entry.older }
+    requires near { top ≤ get_or rests.now entry.place 0 + far_cost scale }
     ensures most { result ≤ top }
-    ensures under { IsUnderStates (M.rules machine.now).decoder aim targets.now twice head result }
+    ensures under { IsUnderEntry (M.rules machine.now).decoder entry targets.now twice head result }
 {
-    let corner = corner_of(scale, aim);
+    let corner = corner_of(scale, entry.aim);
     let mut least = top;
     for step in 0..33u8 {
         let first = State {
             a: corner.a,
             b: corner.b + i32::from(step),
         };
-        let paid = missed(scale, first.b, aim.b);
+        let error = missed(scale, first.b, entry.aim.b);
+        let paid = entry.older.saturating_mul(error);
         least = under_last(
-            machine, head, targets, rests, twice, first, aim, paid, nodes, least,
+            machine, head, targets, rests, twice, first, entry, paid, nodes, least,
         );
     }
     least

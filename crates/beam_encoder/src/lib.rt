@@ -14,6 +14,3 @@ mod top;
 pub use laws::{blocks_are_counted, sorted_rises};
 pub use node::Node;
 pub use top::beam;
-
-#[cfg(test)]
-mod tests;

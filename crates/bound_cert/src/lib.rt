@@ -25,6 +25,3 @@ pub use parts::{LayerCells, SegmentCert};
 pub use segment::SegmentView;
 pub use shape::CertShape;
 pub use writing::write_cert;
-
-#[cfg(test)]
-mod tests;

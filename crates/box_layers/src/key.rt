@@ -36,31 +36,3 @@ pub fn is_key_same(j: Key, k: Key) -> bool
 {
     j.block == k.block && j.place == k.place && j.lane == k.lane
 }
-
-#[cfg(test)]
-mod tests {
-    use crate::key::{Key, is_key_before, is_key_same};
-
-    #[test]
-    fn keys_are_ordered(rt: HostRuntime) {
-        let keys = [(0, 1, 7), (0, 2, 0), (1, 0, 65535), (1, 1, 3), (1, 1, 4)];
-        for i in 0..5 {
-            for k in 0..5 {
-                let (j, l) = (keys[i], keys[k]);
-                let one = Key {
-                    block: j.0,
-                    place: j.1,
-                    lane: j.2,
-                };
-                let other = Key {
-                    block: l.0,
-                    place: l.1,
-                    lane: l.2,
-                };
-                assert_eq!(rt; is_key_before(one, other), i < k, "{i} before {k}");
-                assert_eq!(rt; one < other, i < k, "{i} below {k}");
-                assert_eq!(rt; is_key_same(one, other), i == k, "{i} and {k}");
-            }
-        }
-    }
-}

@@ -92,36 +92,3 @@ pub fn stored(alloc: Global, samples: u32, cert: &LevelCert<'_>) -> Result<Segme
         Err(e) => Err(e),
     }
 }
-
-#[cfg(test)]
-mod tests {
-    use crate::keyed::put_layers;
-    use machine_core::Cell;
-    use open_cells::Node;
-    use std::test::*;
-
-    // Three cells of two lanes before sample 5 of block 3.
-    #[test]
-    fn each_lane_has_a_layer(rt: HostRuntime) -> Result<(), Fail> {
-        let nodes = [(2, 0, 0, 5), (2, 0, 1, 6), (4, -1, 2, 7)].map(|(lane, a, b, cost)| Node {
-            lane,
-            cell: Cell { a, b },
-            cost,
-        });
-        let mut out = Vec::new(rt.alloc());
-        put_layers(rt.alloc(), 3, 5, &nodes, &mut out)?;
-        assert_eq!(rt; out.len(), 2);
-        for (layer, (lane, count, last)) in out.iter().zip([(2, 2, 6), (4, 1, 7)]) {
-            assert_eq!(rt; layer.key().block, 3, "block of lane {lane}");
-            assert_eq!(rt; layer.key().place, 5, "place of lane {lane}");
-            assert_eq!(rt; layer.key().lane, lane, "lane");
-            assert_eq!(rt; layer.cells().len(), count, "cells of lane {lane}");
-            let cell = layer.cells().last();
-            assert!(rt;
-                cell.is_some_and(|c| c.value == last),
-                "last value of lane {lane}"
-            );
-        }
-        Ok(())
-    }
-}

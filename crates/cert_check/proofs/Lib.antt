@@ -6,4 +6,3 @@ pub mod Accept
 pub mod Ready
 pub mod Exact
 pub mod Refused
-pub mod BrrFiled

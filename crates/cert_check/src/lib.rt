@@ -12,6 +12,3 @@ mod whole;
 
 pub use checking::CellFault;
 pub use whole::{check, scratch_need};
-
-#[cfg(test)]
-mod tests;

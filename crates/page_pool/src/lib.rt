@@ -8,6 +8,3 @@ mod page;
 mod pool;
 
 pub use pool::Pool;
-
-#[cfg(test)]
-mod tests;

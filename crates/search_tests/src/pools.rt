@@ -1,4 +1,5 @@
-use crate::Pool;
+//! Lists in pages, which lie in raw memory.
+use page_pool::Pool;
 use std::test::*;
 
 // Numbers from 1 on; the 1,001st is written anew after the list was cut.

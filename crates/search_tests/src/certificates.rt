@@ -1,20 +1,11 @@
 //! Certificates by their bytes.
-ghost use Rattle.std.specs.Prelude.{◌≡◌, ◌<◌, ◌^◌, length, IfOk};
-ghost use Rattle.bound_cert.specs.Small.{SmallSegment};
+ghost use Rattle.std.specs.Prelude.{◌≡◌, ◌<◌, ◌^◌, length};
 
-use crate::certificate::read_cert;
-use crate::fault::CertFault;
-use crate::parts::SegmentCert;
-use crate::shape::CertShape;
-use crate::writing::write_cert;
+use crate::fixtures::{SHORTEST, shape_of};
+use bound_cert::{CertFault, SegmentCert, read_cert, write_cert};
 use machine_core::Kind;
 
-/// A segment of one block at level 0, with bound 0 and no layers.
-const SHORTEST: [u8; 24] = [
-    0x41, 0x44, 0x42, 0x43, 1, 0, 1, 0, 1, 0, 0, 0, 0, 0, 0, 0, 0, 0, 0, 0, 0, 0, 0, 0,
-];
-
-/// The same with two cells, (0, 0) of value 16 and (0, 1) of value 17, at the segment's start.
+/// Two cells of a block, (0, 0) of value 16 and (0, 1) of value 17, at the segment's start.
 const TWO_CELLS: [u8; 58] = [
     0x41, 0x44, 0x42, 0x43, 1, 0, 1, 0, 1, 0, 0, 0, 16, 0, 0, 0, 0, 0, 0, 0, 1, 0, 0, 0, 0, 0, 0,
     0, 255, 255, 2, 0, 0, 0, 0, 0, 0, 0, 16, 0, 0, 0, 0, 0, 0, 0, 0, 0, 1, 0, 17, 0, 0, 0, 0, 0, 0,
@@ -24,12 +15,7 @@ const TWO_CELLS: [u8; 58] = [
 fn fault_of(bytes: &[u8]) -> Option<CertFault>
     requires { length bytes.now < 2 ^ 31 }
 {
-    let shape = CertShape {
-        kind: Kind::Brr,
-        block_samples: 16,
-        segments: &[1],
-    };
-    match read_cert(bytes, &shape) {
+    match read_cert(bytes, &shape_of(&[1])) {
         Ok(_) => None,
         Err(fault) => Some(fault),
     }
@@ -95,11 +81,7 @@ fn faults_of_two_cells(rt: HostRuntime) {
 
 #[test]
 fn views_show_the_fields(rt: HostRuntime) {
-    let shape = CertShape {
-        kind: Kind::Brr,
-        block_samples: 16,
-        segments: &[1],
-    };
+    let shape = shape_of(&[1]);
     let Ok(certificate) = read_cert(&TWO_CELLS, &shape) else {
         panic!(rt; "it is a certificate");
     };

@@ -1,6 +1,6 @@
 use Rattle.std.proofs.Common.{refl, arith}
 use Rattle.loop_fit.specs.Source.{IsImaBlock}
-use Rattle.loop_fit.proofs.tests.limits.Goals as goal
+use Rattle.file_tests.proofs.fit.limits.Goals as goal
 
 -- blocks of 256 bytes
 ima_block : IsImaBlock 256 505

@@ -1,16 +1,14 @@
-mod keys;
-mod reading;
-mod samples;
+//! The fault of a manifest as a row of words.
 
-use crate::{ManifestFault, read_manifest};
+use manifest_reader::{ManifestFault, read_manifest};
 use std::alloc::{AllocError, Global};
 use std::process::Abort;
 use std::test::Fail;
 
 // A manifest that lacks its samples, and a sample that lacks its file.
-const KEYS: &str = "format = 'brr'\nbank = 'b'\n";
+pub(crate) const KEYS: &str = "format = 'brr'\nbank = 'b'\n";
 
-const SAMPLE: &str = "[[sample]]\nname = 's'\n";
+pub(crate) const SAMPLE: &str = "[[sample]]\nname = 's'\n";
 
 fn fault_words(alloc: Global, fault: &ManifestFault) -> Result<String, AllocError> {
     match fault {
@@ -51,7 +49,7 @@ fn fault_words(alloc: Global, fault: &ManifestFault) -> Result<String, AllocErro
 }
 
 /// The fault of a manifest that is named `m.toml`, or `none`.
-fn read(alloc: Global, bytes: &[u8]) -> Result<String, AllocError> {
+pub(crate) fn read(alloc: Global, bytes: &[u8]) -> Result<String, AllocError> {
     match read_manifest(alloc, bytes, "m.toml") {
         Ok(_) => String::from_str(alloc, "none"),
         Err(fault) => fault_words(alloc, &fault),
@@ -59,7 +57,7 @@ fn read(alloc: Global, bytes: &[u8]) -> Result<String, AllocError> {
 }
 
 /// Reads a manifest for each row `FAULT | LINE; LINE; ..`, whose lines come after those of `front`.
-fn refuses_each(rt: &impl Abort, alloc: Global, front: &str, rows: &str) -> Result<(), Fail> {
+pub(crate) fn refuses_each(rt: &impl Abort, alloc: Global, front: &str, rows: &str) -> Result<(), Fail> {
     for row in rows.lines() {
         let (want, lines) = row.split_once(" |").ok_or("a row has no fault")?;
         let mut text = String::from_str(alloc, front)?;

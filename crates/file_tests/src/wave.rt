@@ -1,10 +1,10 @@
-mod files;
+//! WAVE files of this and of other makers.
 
-use super::*;
 use adpcm_nums::LoopAt;
-use files::*;
+use crate::other_makers::*;
 use smpl_loops::first_loop;
 use std::test::*;
+use wave_form::{WaveFault, read_wave, write_wave, write_wave_loop};
 
 // Three samples of 8 bits at 32000 frames per second, after a `LIST` of three bytes and its pad, with no pad
 // at the end.

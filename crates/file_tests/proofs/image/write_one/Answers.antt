@@ -4,7 +4,7 @@ use Rattle.block_flags.specs.Last.{last_where}
 use Rattle.player_model.specs.BrrTrack.{track_of}
 use Rattle.snes_directory.specs.declared.part.ImagePart.{ImagePart}
 use Rattle.snes_directory.specs.Part.{IsPart}
-use Rattle.snes_directory.proofs.tests.write_one.Goals as goal
+use Rattle.file_tests.proofs.image.write_one.Goals as goal
 
 abbrev part : List ℕ → ImagePart
 part blocks = record { rate = 32000; blocks = blocks; loop_block = Some 0 }

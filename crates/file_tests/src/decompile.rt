@@ -1,5 +1,7 @@
-use super::*;
+//! Banks taken apart.
+
 use adpcm_nums::LoopAt;
+use decompile_core::{DecompileFault, Form, Settles, decompile};
 use player_model::TrackFault;
 use snes_directory::ImageFault;
 use std::test::*;

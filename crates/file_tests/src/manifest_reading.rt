@@ -1,6 +1,8 @@
-use super::KEYS;
-use crate::{read_manifest, stored_names};
+//! Manifests that are read, and the names of the files of a bank.
+
+use crate::manifest::KEYS;
 use machine_core::Kind;
+use manifest_reader::{read_manifest, stored_names};
 use std::test::Fail;
 
 // The example of the manifest's documentation, and what it says.

@@ -1,7 +1,8 @@
+//! The image of a bank in the SNES's sound memory.
 ghost use Rattle.std.specs.Prelude.{◌<◌};
 
-use super::*;
 use adpcm_nums::Bytes;
+use snes_directory::{ImageFault, ImagePart, LayFault, lay_out, read_image, write_image};
 use std::alloc::Global;
 use std::test::*;
 

@@ -1,4 +1,6 @@
-use super::{KEYS, refuses_each};
+//! Keys of a bank that are refused.
+
+use crate::manifest::{KEYS, refuses_each};
 use std::test::Fail;
 
 const WHOLE: &str = "\

@@ -1,4 +1,6 @@
-use super::*;
+//! The flags of blocks, and where stored blocks split at them.
+
+use block_flags::{FlagSet, Split, SplitFault, flagged, flags_of, split_blocks};
 use machine_core::Kind;
 
 #[test]

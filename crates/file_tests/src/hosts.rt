@@ -1,4 +1,6 @@
-use super::{Host, HostFault, MemoryHost, RealHost, SteadyHost};
+//! Hosts over the files of the runtime and over files in memory.
+
+use host_files::{Host, HostFault, MemoryHost, RealHost, SteadyHost};
 use std::test::Fail;
 
 #[test]

@@ -1,7 +1,8 @@
+//! VAG files.
 ghost use Rattle.std.specs.Prelude.{◌<◌};
 
-use super::*;
 use std::test::*;
+use vag_writer::{VagFault, read_vag, write_vag};
 
 // A file of one block of silence, named s, at 32000 samples a second.
 const SILENCE: [u8; 64] = [

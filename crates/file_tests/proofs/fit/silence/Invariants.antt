@@ -1,5 +1,5 @@
 use Rattle.std.proofs.Common.{◌≡◌, length}
-use Rattle.loop_fit.proofs.tests.silence.Given as goal
+use Rattle.file_tests.proofs.fit.silence.Given as goal
 
 -- a sample for each round
 abbrev pub invariant-loop-frame : goal.invariant-loop-frame

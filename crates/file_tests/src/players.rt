@@ -1,7 +1,11 @@
-use super::*;
+//! Tracks and their players, by index and one output after another.
+
 use adpcm_nums::LoopAt;
 use block_flags::SplitFault;
 use ima_machine::{Ima, ImaFault};
+use player_model::{
+    BrrPlayer, ImaPlayer, SpuPlayer, TrackFault, brr_track, ima_track, play_brr_at, play_ima_at, play_spu_at, spu_track,
+};
 use std::test::Fail;
 
 /// Two blocks, the second of which repeats: codes 1 under shift 5, then zeros under filter 1.

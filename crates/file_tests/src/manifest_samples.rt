@@ -1,4 +1,6 @@
-use super::{KEYS, SAMPLE, read, refuses_each};
+//! Samples of a bank that are refused, and what is too long.
+
+use crate::manifest::{KEYS, SAMPLE, read, refuses_each};
 use std::alloc::{AllocError, Global};
 use std::test::Fail;
 

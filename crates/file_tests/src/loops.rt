@@ -1,7 +1,8 @@
+//! The sampler chunk of WAVE files.
 ghost use Rattle.std.specs.Prelude.{◌<◌};
 
-use super::*;
 use adpcm_nums::LoopAt;
+use smpl_loops::{LoopFault, first_loop, sampler_body};
 use std::test::*;
 
 // The sampler of a sound of 32000 frames per second with a loop from frame 0 to frame 16.

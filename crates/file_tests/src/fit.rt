@@ -1,8 +1,9 @@
+//! Sounds and their loops, fitted to whole blocks.
 ghost use Rattle.std.specs.Prelude.{◌≡◌, ◌<◌, length, IfOk};
 ghost use Rattle.loop_fit.specs.Source.{IsBlockOf};
 
-use super::*;
 use adpcm_nums::{LoopAt, NoMemory, Samples};
+use loop_fit::{FitFault, FitRule, Length, Start, fit, segments};
 use machine_core::Kind;
 use std::alloc::Global;
 use std::test::*;

@@ -1,4 +1,6 @@
-use crate::{
+//! The lines of the report.
+
+use report_text::{
     BoundReport, LinePart, LoopShown, SampleReport, block_line, bound_line, done_line, fault_line,
     sample_line,
 };

@@ -1,6 +1,8 @@
-use super::*;
+//! WAVE files of IMA ADPCM.
+
 use adpcm_nums::LoopAt;
 use ima_machine::ImaFault;
+use ima_wave::{ImaWaveFault, read_ima, write_ima};
 use smpl_loops::LoopFault;
 use std::test::*;
 use wave_form::WaveFault;

@@ -54,6 +54,26 @@ $ compile m.toml
 holds b.s.wav 524946463C00000057415645666D74201400000011000100007D00001C6F000008000400020009006661637404000000090000006461746108 00*7 01000000
 same b.s.first.wav s.wav
 holds b.s.cert 41444243 01 02 0100 0100 00*14
+host
+file m.toml text format = 'spu';bank = 'b';[[sample]];name = 's';file = 's.wav'
+file s.wav wave 0..27 0*28
+$ compile m.toml
+> sample s blocks 1 loop 0 error 0 bound 0 gap 0 levels 1 0 0 0 optimal
+> done 1 samples 3 files
+= 0
+holds b.s.vag 5641477000000020 00*7 1000007D 00*13 73 00*16 07 00*14
+file s.wav wave 28..55 0*56
+$ compile m.toml
+> sample s blocks 2 loop 1 error 0 bound 0 gap 0 levels 2 0 0 0 optimal
+> done 1 samples 3 files
+= 0
+holds b.s.vag 5641477000000020 00*7 2000007D 00*13 73 00*32 07 00*14
+file s.wav wave 0..55 0*56
+$ compile m.toml
+> sample s blocks 2 loop 0 error 0 bound 0 gap 0 levels 1 0 0 0 optimal
+> done 1 samples 3 files
+= 0
+holds b.s.vag 5641477000000020 00*7 2000007D 00*13 73 00*16 04 00*15 03 00*14
 ";
 
 // The blocks before a loop are a segment of their own; a segment of more than 64 blocks has a floor alone. No output of BRR meets an odd target.

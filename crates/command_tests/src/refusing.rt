@@ -282,6 +282,17 @@ $ compile m.toml
 file s.wav hex 524946468700000057415645666D74201000000001000100007D000000FA0000020010006461746120 00*35 736D706C3B 00*11 127A00003C 00*15 01 00*19 0F 00*10
 $ compile m.toml
 > fault 4 s SmplShort 59
+file s.wav hex 524946467000000057415645666D74201000000001000100007D000000FA0000020010006461746120 00*35 736D706C24 00*39
+$ compile m.toml
+> sample s blocks 1 loop none error 0 bound 0 gap 0 levels 1 0 0 0 optimal
+> done 1 samples 3 files
+= 0
+host
+file m.toml text format = 'ima';bank = 'b';[[sample]];name = 's';file = 's.wav'
+file s.wav wave none 0*262096
+$ compile m.toml
+> fault 5 s TooLong 520
+file m.toml text format = 'brr';bank = 'b';[[sample]];name = 's';file = 's.wav'
 file s.wav wave none
 $ compile m.toml
 > fault 5 s EmptySample

@@ -165,7 +165,10 @@ impl Stage {
         let rest = said.strip_prefix(front).ok_or("another line")?;
         let (number, _) = rest.split_once(' ').ok_or("no number")?;
         let number = number_of(number)?;
-        assert!(rt; number_of(low)? <= number && number <= number_of(high)?, "{row}");
+        assert!(rt;
+            number_of(low)? <= number && number <= number_of(high)?,
+            "{row}"
+        );
         Ok(())
     }
 

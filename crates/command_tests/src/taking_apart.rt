@@ -44,6 +44,21 @@ file F byte 48 05
 $ decompile ima F o
 > fault 4 F LoopOutside 5 5
 = 4
+file F hex 524946463C00000057415645666D74201400000011000100007D00001C6F000008000400020009006661637404000000090000006461746108 00*7 01000000
+file F byte 48 05
+$ decompile ima F o
+> entry 0 frames 5 loop none settles none trailing 0
+= 0
+file w wave none 0 1*4
+same o.0.wav w
+file F byte 48 0A
+$ decompile ima F o
+> entry 0 frames 9 loop none settles none trailing 0
+= 0
+file F byte 40 00
+$ decompile ima F o
+> entry 0 frames 9 loop none settles none trailing 0
+= 0
 host 1
 file F hex 534E4249010001000002000016 00*4 7D000004020D0250 11*8 07 00*8
 $ decompile brr F o

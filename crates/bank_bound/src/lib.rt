@@ -4,7 +4,5 @@
 
 mod bound;
 mod floor;
-#[cfg(test)]
-mod tests;
 
 pub use bound::bound_of;

@@ -1,9 +1,10 @@
-//! Manifests that are read, and the names of the files of a bank.
+//! Manifests that are read.
 
-use crate::manifest::KEYS;
-use machine_core::Kind;
-use manifest_reader::{read_manifest, stored_names};
+use manifest_reader::read_manifest;
 use std::test::Fail;
+
+// What stands in front of a sample.
+const KEYS: &str = "format = 'brr'\nbank = 'b'\n";
 
 // The example of the manifest's documentation, and what it says.
 const EXAMPLE: &str =
@@ -36,34 +37,6 @@ fn reads_manifests(rt: HostRuntime) -> Result<(), Fail> {
         let manifest = read_manifest(alloc, text.as_bytes(), "m.toml")?;
         let read = format!(in alloc; "{manifest:?}")?;
         assert_eq!(rt; read.as_str(), want);
-    }
-    Ok(())
-}
-
-#[test]
-fn names_the_files_of_a_bank(rt: HostRuntime) -> Result<(), Fail> {
-    let alloc = rt.alloc();
-    let example = read_manifest(alloc, EXAMPLE.as_bytes(), "m.toml")?;
-    for (kind, want) in [
-        (
-            Kind::Brr,
-            "x x.cello.first.wav x.cello.cert x.hit.first.wav x.hit.cert ",
-        ),
-        (
-            Kind::Spu,
-            "x.cello.vag x.cello.first.wav x.cello.cert x.hit.vag x.hit.first.wav x.hit.cert ",
-        ),
-        (
-            Kind::Ima,
-            "x.cello.wav x.cello.first.wav x.cello.cert x.hit.wav x.hit.first.wav x.hit.cert ",
-        ),
-    ] {
-        let mut all = String::new(alloc);
-        for name in &stored_names(alloc, kind, "x", example.samples.as_slice())? {
-            all.push_str(name.as_str())?;
-            all.push_str(" ")?;
-        }
-        assert_eq!(rt; all.as_str(), want);
     }
     Ok(())
 }

@@ -10,7 +10,7 @@ use super::*;
 use adpcm_nums::{NoMemory, Samples};
 use bound_cert::CertFault;
 use cert_check::CellFault;
-use command_plan::CertRefusal;
+use command_faults::CertRefusal;
 use loop_fit::Fitted;
 use machine_core::Kind;
 use std::alloc::Global;

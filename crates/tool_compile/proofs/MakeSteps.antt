@@ -22,8 +22,8 @@ use Rattle.bank_kinds.specs.Kinds.{codec_for}
 use Rattle.bank_kinds.specs.Fits.{loop_shown}
 use Rattle.bank_kinds.specs.Bound.{IsBound}
 use Rattle.bank_compile.specs.declared.sample.SampleOut.{SampleOut}
-use Rattle.command_plan.specs.declared.status.Status.{Status}
-use Rattle.command_plan.specs.declared.status.Status.TheVariants.{Memory}
+use Rattle.command_faults.specs.declared.status.Status.{Status}
+use Rattle.command_faults.specs.declared.status.Status.TheVariants.{Memory}
 use Rattle.command_plan.specs.Plan.{Plan}
 use Rattle.command_plan.specs.Promise.{IsPlanOf, Reaches, Promises, Finishes}
 use Rattle.command_plan.specs.Steps.{Comes, writing}

@@ -4,8 +4,8 @@ use Rattle.adpcm_nums.specs.Outcome.{Tells}
 use Rattle.host_files.specs.Outside.{World, Files, grown, raised}
 use Rattle.host_files.specs.declared.named_file.NamedFile.{NamedFile}
 use Rattle.manifest_reader.specs.Meaning.{Content}
-use Rattle.command_plan.specs.declared.status.Status.{Status}
-use Rattle.command_plan.specs.declared.status.Status.TheVariants.{Done, Memory}
+use Rattle.command_faults.specs.declared.status.Status.{Status}
+use Rattle.command_faults.specs.declared.status.Status.TheVariants.{Done, Memory}
 use Rattle.command_plan.specs.Ending.{is_device}
 use Rattle.command_plan.specs.Plan.{all_stored}
 use Rattle.tool_files.specs.declared.source.Source.{Source}

@@ -19,8 +19,8 @@ use Rattle.bank_kinds.specs.Bound.{IsBound}
 use Rattle.bank_compile.specs.declared.sample.SampleOut.{SampleOut}
 use Rattle.bank_compile.specs.Sample.{Effort, IsCompiled, IsReached}
 use Rattle.bank_compile.specs.Told.{report_text}
-use Rattle.command_plan.specs.declared.status.Status.{Status}
-use Rattle.command_plan.specs.declared.status.Status.TheVariants.{Done, Memory}
+use Rattle.command_faults.specs.declared.status.Status.{Status}
+use Rattle.command_faults.specs.declared.status.Status.TheVariants.{Done, Memory}
 use Rattle.command_plan.specs.Ending.{is_device}
 use Rattle.command_plan.specs.Read.{as_reading, written_under}
 use Rattle.command_plan.specs.Reading.{Reading}

@@ -11,7 +11,8 @@ ghost use Rattle.command_plan.specs.Steps.{Keeps};
 
 use crate::form_bank::form_bank;
 use adpcm_nums::NoMemory;
-use command_plan::{Status, finish, write_out};
+use command_faults::Status;
+use command_plan::{finish, write_out};
 use host_files::Host;
 use manifest_reader::Manifest;
 use std::alloc::Global;

@@ -4,7 +4,8 @@ ghost use Rattle.command_plan.specs.Steps.{Keeps};
 
 use crate::made::made_report;
 use adpcm_nums::NoMemory;
-use command_plan::{Status, finish, write_out};
+use command_faults::Status;
+use command_plan::{finish, write_out};
 use host_files::Host;
 use std::alloc::Global;
 

@@ -7,6 +7,7 @@ use crate::bounded::{limit, put};
 use crate::codes::Codes;
 use crate::path::Path;
 use crate::ranked::ranked;
+use crate::taken::taken;
 use crate::two::next_nearest;
 use adpcm_nums::NoMemory;
 use machine_core::{HeadRule, Machine, State, Taken, rule_at};
@@ -48,12 +49,14 @@ fn begin(now: &mut Vec<Path>, layer: &[Path], head: u32) -> Result<(), NoMemory>
 fn go_on(
     next: &mut Vec<Path>,
     width: usize,
+    grain: u32,
     most: u64,
     path: Path,
     place: u32,
     taken: Option<Taken>,
 ) -> Result<(), NoMemory>
     requires width { 0 < width }
+    requires grain { grain < 32 }
     requires place { place < 32 }
     ensures { (d : Decoder) → AreStates d next.old.items → IfSome taken (λ t. IsTrue (d.is_state t.state)) → OnOk result (AreStates d next.new.items) }
 {
@@ -71,7 +74,7 @@ fn go_on(
         codes: path.codes.with(place, taken.symbol % 16),
         ..path
     };
-    put(next, width, longer)
+    put(next, width, grain, longer)
 }
 
 /// The paths one sample further under a head: each with the nearest code, and with the next nearest that gives another output.
@@ -83,8 +86,10 @@ fn step_all<M: Machine>(
     now: &[Path],
     next: &mut Vec<Path>,
     width: usize,
+    grain: u32,
     most: u64,
 ) -> Result<(), NoMemory>
+    requires grain { grain < 32 }
     requires head { head < (M.rules machine.now).decoder.heads }
     requires place { place < (M.rules machine.now).decoder.samples }
     requires early { place < 32 }
@@ -97,10 +102,33 @@ fn step_all<M: Machine>(
     for path in now {
         let nearest = machine.take_nearest(head, place, path.state, target);
         let other = next_nearest(machine, head, place, path.state, target, nearest);
-        go_on(next, width, most, *path, place, Some(nearest))?;
-        go_on(next, width, most, *path, place, other)?;
+        go_on(next, width, grain, most, *path, place, Some(nearest))?;
+        go_on(next, width, grain, most, *path, place, other)?;
     }
     Ok(())
+}
+
+/// The output after a code at a block's first place, from no output.
+fn output_of<M: Machine>(machine: &M, head: u32, code: u32) -> i32
+    requires { head < (M.rules machine.now).decoder.heads }
+{
+    match taken(machine, head, 0, code, State { a: 0, b: 0 }, 0) {
+        Some(found) => found.state.a,
+        None => 0,
+    }
+}
+
+/// The bits of a cell of outputs under a head inside a block: the greatest power of two that is at most a thirty-second of the
+/// step between two codes, or 1.
+fn grain_of<M: Machine>(machine: &M, head: u32) -> u32
+    requires { head < (M.rules machine.now).decoder.heads }
+    ensures { result < 32 }
+{
+    let low = output_of(machine, head, 0);
+    let high = output_of(machine, head, 1);
+    (high.saturating_sub(low).unsigned_abs() / 32)
+        .max(1)
+        .ilog2()
 }
 
 /// The two lists that the paths of a block change between, from place to place.
@@ -116,7 +144,7 @@ fn put_all(made: &mut Vec<Path>, width: usize, paths: &[Path]) -> Result<(), NoM
     ensures { (d : Decoder) → AreStates d made.old.items → AreStates d paths.now → OnOk result (AreStates d made.new.items) }
 {
     for path in paths {
-        put(made, width, *path)?;
+        put(made, width, 0, *path)?;
     }
     Ok(())
 }
@@ -141,6 +169,7 @@ fn extend<M: Machine>(
     ensures { OnOk result (AreStates (M.rules machine.now).decoder made.new.items) }
 {
     let most = known.min(limit(made.as_slice(), width));
+    let grain = grain_of(machine, head);
     begin(&mut scratch.now, layer, head)?;
     for place in 0..machine.block_samples() {
         let target = block[place as usize];
@@ -152,6 +181,7 @@ fn extend<M: Machine>(
             scratch.now.as_slice(),
             &mut scratch.next,
             width,
+            grain,
             most,
         )?;
         std::mem::swap(&mut scratch.now, &mut scratch.next);

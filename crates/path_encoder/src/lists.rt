@@ -114,7 +114,7 @@ impl Lists {
                 symbol: taken.symbol,
             },
         };
-        put(&mut self.by_index[index], width, slot)
+        put(&mut self.by_index[index], width, 0, slot)
     }
 
     /// Empties all lists.

@@ -24,7 +24,9 @@ impl Ranked for Path {
         self.sum
     }
 
-    fn is_like(&self, other: &Path) -> bool {
-        self.state == other.state
+    /// Whether both outputs of the states lie in one cell.
+    fn is_like(&self, other: &Path, grain: u32) -> bool {
+        self.state.a >> grain == other.state.a >> grain
+            && self.state.b >> grain == other.state.b >> grain
     }
 }

@@ -30,7 +30,8 @@ impl Ranked for Slot {
         self.sum
     }
 
-    fn is_like(&self, other: &Slot) -> bool {
+    /// Whether they are in one cell of their index, whatever the grain.
+    fn is_like(&self, other: &Slot, _grain: u32) -> bool {
         self.cell == other.cell
     }
 }

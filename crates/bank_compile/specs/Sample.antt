@@ -2,7 +2,7 @@
 use Rattle.std.specs.Prelude.{◌≡◌, ℕ, ◌+◌, ◌/◌, ℤ, List, [], ◌∷◌, length, map}
 use Rattle.std.specs.Bool.{⊤}
 use Rattle.std.specs.List.{sum_by}
-use Rattle.machine_core.specs.Blocks.{Blocks}
+use Rattle.machine_core.specs.Blocks.{Blocks, IsLegal}
 use Rattle.machine_core.specs.Rules.{Rules}
 use Rattle.machine_core.specs.Segments.{part_targets, joined}
 use Rattle.loop_fit.specs.declared.fitted.Fitted.{Fitted}
@@ -13,7 +13,7 @@ use Rattle.report_text.specs.declared.report.SampleReport.{SampleReport}
 use Rattle.bank_compile.specs.declared.sample.SampleOut.{SampleOut}
 use Rattle.bank_compile.specs.Segment.{IsFound}
 use Rattle.bank_kinds.specs.Chosen.{list_of}
-use Rattle.bank_kinds.specs.Codec.{Codec}
+use Rattle.bank_kinds.specs.Codec.{Codec, fixed_in}
 use Rattle.bank_kinds.specs.Certified.{levels_of, segments_in}
 use Rattle.bank_kinds.specs.Fits.{bytes_of, first_of, error_of, loop_shown}
 
@@ -76,3 +76,13 @@ pub record IsCompiled (c : Codec) (effort : Effort) (name : List ℕ) (rate : �
 abbrev pub beam_sums : Rules → ℕ → List ℤ → ℕ → List ℕ → ℕ
 beam_sums r width targets b [] = 0
 beam_sums r width targets b (count ∷ counts) = beam_sum r.decoder width (part_targets r.decoder targets b count) + beam_sums r width targets (b + count) counts
+
+-- the sum of the errors of the beams of a width for the segments of a fitted sound
+abbrev pub beams_error : Codec → ℕ → Fitted → ℕ
+beams_error c width fitted = beam_sums c.rules width fitted.targets 0 (segments_in c fitted)
+
+-- a list of blocks that may be stored for a fitted sound has just this error
+pub record IsReached (c : Codec) (fitted : Fitted) (error : ℕ) : Type 0 where
+  pub list : Blocks
+  pub legal : IsLegal c.rules.decoder fitted.blocks (fixed_in c fitted) list
+  pub error_is : error ≡ error_of c fitted list

@@ -2,10 +2,10 @@ ghost use Rattle.std.specs.Prelude.{◌≡◌, ◌≤◌, ◌∷◌, [], ℕ, Is
 ghost use Rattle.ima_machine.specs.Ima.{is_align};
 ghost use Rattle.manifest_reader.specs.Ranges.{IsWithin};
 ghost use Rattle.bank_kinds.specs.Bound.{IsBound};
-ghost use Rattle.bank_kinds.specs.Certified.{IsCertified, segments_in};
+ghost use Rattle.bank_kinds.specs.Certified.{IsCertified};
 ghost use Rattle.bank_kinds.specs.Kinds.{codec_for};
 ghost use Rattle.bank_kinds.specs.Fits.{IsFit};
-ghost use Rattle.bank_compile.specs.Sample.{IsCompiled, beam_sums};
+ghost use Rattle.bank_compile.specs.Sample.{IsCompiled, IsReached, beams_error};
 ghost use Rattle.bank_compile.specs.Bank.{IsOut};
 
 use crate::sample::{SampleOut, encoded};
@@ -45,8 +45,8 @@ pub fn compile_sample(
     ensures lowest { IfOk result (λ out. IsBound (codec_for manifest.now.kind manifest.now.block) fitted out.report.bound) }
     ensures bound { IfOk result (λ out. out.report.bound ≤ out.report.error) }
     ensures whole { IfOk result (λ out. (n : ℕ) → out.report.levels ≡ n ∷ 0 ∷ 0 ∷ 0 ∷ [] → out.report.bound ≡ out.report.error) }
-    ensures near_beam { IfOk result (λ out. out.report.error
-        ≤ beam_sums (codec_for manifest.now.kind manifest.now.block).rules manifest.now.beam fitted.targets 0 (segments_in (codec_for manifest.now.kind manifest.now.block) fitted)) }
+    ensures near_beam { IfOk result (λ out. out.report.error ≤ beams_error (codec_for manifest.now.kind manifest.now.block) manifest.now.beam fitted) }
+    ensures reached { IfOk result (λ out. IsReached (codec_for manifest.now.kind manifest.now.block) fitted out.report.error) }
 {
     let width = manifest.beam;
     let budget = manifest.budget;

@@ -6,10 +6,10 @@ ghost use Rattle.bound_cert.specs.Spelling.{cert_bytes};
 ghost use Rattle.bank_kinds.specs.Chosen.{list_of};
 ghost use Rattle.bank_kinds.specs.Codec.{codec_of};
 ghost use Rattle.bank_kinds.specs.Bound.{IsBound};
-ghost use Rattle.bank_kinds.specs.Certified.{IsCertified, segments_in};
+ghost use Rattle.bank_kinds.specs.Certified.{IsCertified};
 ghost use Rattle.bank_kinds.specs.Fits.{IsFit, bytes_of, first_of, loop_shown, played_in};
 ghost use Rattle.bank_compile.specs.Known.{certs_of, bounds_of, levels_in};
-ghost use Rattle.bank_compile.specs.Sample.{IsCompiled, beam_sums};
+ghost use Rattle.bank_compile.specs.Sample.{IsCompiled, IsReached, beams_error};
 ghost use Rattle.bank_compile.specs.Bank.{IsOut};
 
 use crate::joined::{bound_of, certificates, joined, levels_of};
@@ -155,7 +155,8 @@ pub(crate) fn encoded<C: Encode>(
     ensures lowest { IfOk result (λ out. IsBound (codec_of (C.rules codec.now) (C.bytes codec.now)) fitted out.report.bound) }
     ensures bound { IfOk result (λ out. out.report.bound ≤ out.report.error) }
     ensures whole { IfOk result (λ out. (n : ℕ) → out.report.levels ≡ n ∷ 0 ∷ 0 ∷ 0 ∷ [] → out.report.bound ≡ out.report.error) }
-    ensures near_beam { IfOk result (λ out. out.report.error ≤ beam_sums (C.rules codec.now) width fitted.targets 0 (segments_in (codec_of (C.rules codec.now) (C.bytes codec.now)) fitted)) }
+    ensures near_beam { IfOk result (λ out. out.report.error ≤ beams_error (codec_of (C.rules codec.now) (C.bytes codec.now)) width fitted) }
+    ensures reached { IfOk result (λ out. IsReached (codec_of (C.rules codec.now) (C.bytes codec.now)) fitted out.report.error) }
 {
     let founds = search_segments(alloc, codec, &fitted, width, budget)?;
     let samples = fitted.targets.as_slice().len();

@@ -42,7 +42,8 @@ pub fn run<H: Host>(alloc: Global, host: &mut H, words: &[String]) -> Status
     ensures block { (files : Files) (input output : List ℕ) → (H.world host.old).files ≡ Some files → command_of (map string_bytes words.now) ≡ Some (Command.Block input output) →
         AnswersBlock files input output (H.world host.old) (H.world host.new) result }
     // What it says of `compile`: the stored bank plays as its first passes sound, the told errors are exact, no list of
-    // blocks that may be stored has an error below a told bound, and a told gap of 0 means that none has a smaller error.
+    // blocks that may be stored has an error below a told bound, and a told gap of 0 means that none has a smaller error; a told error
+    // is at most the sum of the beams' errors, and the bound where every segment was searched state by state.
     ensures compile { (files : Files) (manifest : List ℕ) → (H.world host.old).files ≡ Some files → command_of (map string_bytes words.now) ≡ Some (Command.Compile manifest) →
         AnswersCompile files manifest (H.world host.old) (H.world host.new) result }
     // What it says of `check`, whoever made the stored files: each stored list is legal, its told error is exact, and no list of

@@ -9,8 +9,6 @@ mod names;
 mod reader;
 mod sample;
 mod stored;
-#[cfg(test)]
-mod tests;
 mod words;
 
 pub use fault::ManifestFault;

@@ -25,8 +25,9 @@ pub record HasCompiled (held : Files) (manifest : List ℕ) (a b : World) : Type
   pub bank : IsBank content sources writes line
   pub files : b.files ≡ all_stored a.files writes
   pub said : b.said ≡ grown a.said line
-  -- so now the stored bank plays each source as the file of its first pass says, the told errors are exact, and the stored certificates show the told bounds
-  pub kept : (after : Files) → b.files ≡ Some after → AllStored content.kind content.block content.bank sources bank.outs after
+  -- so now the stored bank plays each source as the file of its first pass says, the told errors are exact, and the stored certificates show the told bounds;
+  -- each told error is at most the sum of the beams' errors, and the bound where every segment was searched state by state
+  pub kept : (after : Files) → b.files ≡ Some after → AllStored content sources bank.outs after
   -- the manifest and each source were fetched, each of the bank's files stored, and one line said
   pub calls : b.calls ≡ raised (1 + length content.samples + length (bank_names content) + 1) a.calls
 

@@ -29,6 +29,7 @@ pub record InRanges (m : Content) : Type 0 where
   pub base : IsWithin 0 65280 256 m.base
   pub block : IsWithin 8 1024 4 m.block
   pub beam : IsWithin 1 64 1 m.beam
+  pub paths : IsWithin 1 64 1 m.paths
   pub budget : IsWithin 0 1000000 1 m.budget
   pub some : 1 ≤ length m.samples
   pub few : length m.samples ≤ 64

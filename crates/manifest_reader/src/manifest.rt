@@ -28,6 +28,8 @@ pub struct Manifest {
     pub block: u32,
     /// How many lists of blocks the encoder keeps: 1 to 64.
     pub beam: u32,
+    /// How many lists of codes go on together inside each block: 1 to 64.
+    pub paths: u32,
     /// How many cells the search may keep for a sample: up to 1,000,000.
     pub budget: u32,
     /// How a loop's length is fitted to blocks.

@@ -10,17 +10,6 @@ use Rattle.path_encoder.specs.declared.ranked.RankedHead.{RankedHead}
 abbrev pub AreStates : Decoder → List Path → Type 0
 AreStates d list = All (λ p. IsTrue (d.is_state p.state)) list
 
--- the targets of one block
-pub record IsBlock (d : Decoder) (block : List ℤ) : Type 0 where
-  pub count : length block ≡ d.samples
-  pub range : AreSamples block
-
--- the targets of so many blocks
-pub record AreTargets (d : Decoder) (blocks : ℕ) (targets : List ℤ) : Type 0 where
-  pub count : length targets ≡ blocks * d.samples
-  pub few : length targets ≤ 262144
-  pub range : AreSamples targets
-
 -- heads below a number
 abbrev pub AreHeads : ℕ → List RankedHead → Type 0
 AreHeads most heads = All (λ h. h.head < most) heads

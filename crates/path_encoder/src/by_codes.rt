@@ -1,6 +1,7 @@
 ghost use Rattle.std.specs.Prelude.{IfSome, ◌≡◌, ◌^◌, ◌<◌, ◌≤◌, IsTrue, IfOk, OnOk, length};
 ghost use Rattle.adpcm_nums.specs.Sample.{IsSample};
-ghost use Rattle.path_encoder.specs.Paths.{AreStates, IsBlock, AreTargets};
+ghost use Rattle.beam_encoder.specs.Near.{IsBlock, AreTargets};
+ghost use Rattle.path_encoder.specs.Paths.{AreStates};
 ghost use Rattle.machine_core.specs.Decoder.{Decoder, start};
 
 use crate::bounded::{limit, put};

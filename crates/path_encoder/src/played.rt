@@ -3,7 +3,7 @@ ghost use Rattle.adpcm_nums.specs.Sample.{AreSamples};
 ghost use Rattle.machine_core.specs.Blocks.{IsInRange, IsLegal, first_only, rule_of, step_at};
 ghost use Rattle.machine_core.specs.Decoder.{miss};
 ghost use Rattle.machine_core.specs.Sums.{sum_of};
-ghost use Rattle.path_encoder.specs.Paths.{AreTargets};
+ghost use Rattle.beam_encoder.specs.Near.{AreTargets};
 
 use machine_core::{Machine, State, rule_at};
 

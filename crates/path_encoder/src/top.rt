@@ -1,5 +1,5 @@
 ghost use Rattle.std.specs.Prelude.{◌≡◌, ◌<◌, ◌≤◌, IfOk};
-ghost use Rattle.path_encoder.specs.Paths.{AreTargets};
+ghost use Rattle.beam_encoder.specs.Near.{AreTargets};
 ghost use Rattle.path_encoder.specs.Better.{IsChoice};
 
 use crate::by_codes::layers;

@@ -47,7 +47,10 @@ const NUMBERS: &str = "\
 3 manifest OutOfRange beam 0 | beam = 0
 3 manifest NoSamples | beam = 1
 3 manifest NoSamples | beam = 64
-3 manifest OutOfRange beam 65 | beam = 65
+3 manifest OutOfRange beam 65 | beam = 65;paths = 0
+3 manifest WrongKind paths | paths = '4'
+3 manifest OutOfRange paths 65 | paths = 65;budget = -1
+3 manifest NoSamples | paths = 64
 3 manifest WrongKind budget | budget = []
 3 manifest OutOfRange budget -1 | budget = -1
 3 manifest NoSamples | budget = 0

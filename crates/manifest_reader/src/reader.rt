@@ -13,6 +13,7 @@ use crate::keys::check_keys;
 use crate::manifest::Manifest;
 use crate::names::check_names;
 use crate::sample::samples_at;
+use adpcm_nums::MOST_MANIFEST;
 use std::alloc::Global;
 use toml::Table;
 
@@ -92,7 +93,7 @@ pub fn read_manifest(alloc: Global, bytes: &[u8], own: &str) -> Result<Manifest,
     ensures apart { IfOk result (λ m. IsApart (stored_names m.kind m.bank m.samples.items) m.samples.items own.now) }
     ensures value { Gives ManifestFault.NoMemory content_of result (manifest_of bytes.now own.now) }
 {
-    if 65536 < bytes.len() {
+    if bytes.len() as u64 > MOST_MANIFEST {
         return Err(ManifestFault::TooLong {
             len: bytes.len() as u64,
         });

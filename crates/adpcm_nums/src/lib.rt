@@ -5,6 +5,7 @@
 
 mod arithmetic;
 mod bytes;
+mod limits;
 mod loop_at;
 mod nearest;
 mod nibbles;
@@ -16,6 +17,9 @@ mod words32;
 
 pub use arithmetic::{clamp16, floor_div, floor_shift, square, wrap15};
 pub use bytes::Bytes;
+pub use limits::{
+    MOST_BLOCKS, MOST_CERTIFICATE, MOST_MANIFEST, MOST_SAMPLES, MOST_SOURCE, MOST_STORED,
+};
 pub use loop_at::LoopAt;
 pub use nearest::{distance_in, multiple};
 pub use nibbles::{cheaper, nibble_at, nibble_value, nibbles_around};

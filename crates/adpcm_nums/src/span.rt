@@ -53,27 +53,3 @@ impl Default for Span {
         Span { lo: 0, hi: 0 }
     }
 }
-
-#[cfg(test)]
-mod tests {
-    use super::Span;
-
-    #[test]
-    fn distances(rt: HostRuntime) {
-        let span = Span { lo: -3, hi: 5 };
-        for (scale, target, want) in [
-            (2, 7, 1),
-            (2, 20, 100),
-            (2, -6, 0),
-            (1, -32768, 1_073_545_225),
-        ] {
-            assert_eq!(rt;
-                span.distance_sq(scale, target),
-                want,
-                "at {scale} and {target}"
-            );
-        }
-        assert!(rt; span.meets(Span { lo: 5, hi: 9 }));
-        assert!(rt; !span.meets(Span { lo: 6, hi: 9 }));
-    }
-}

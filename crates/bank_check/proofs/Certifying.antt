@@ -18,8 +18,8 @@ use Rattle.loop_fit.specs.declared.fitted.Fitted.{Fitted}
 use Rattle.cert_check.specs.declared.checking.CellFault.{CellFault}
 use Rattle.cert_check.specs.Layers.{certificate_in}
 use Rattle.cert_check.proofs.Ready.{layers-ready}
-use Rattle.command_plan.specs.declared.refusal.CertRefusal.{CertRefusal}
-use Rattle.command_plan.specs.declared.refusal.CertRefusal.TheVariants.{Grammar}
+use Rattle.command_faults.specs.declared.refusal.CertRefusal.{CertRefusal}
+use Rattle.command_faults.specs.declared.refusal.CertRefusal.TheVariants.{Grammar}
 use Rattle.loop_fit.proofs.SegmentsCut.{segments-cut}
 use Rattle.bank_kinds.specs.Codec.{Codec, IsCodec, fixed_in}
 use Rattle.bank_kinds.specs.Fits.{IsFit}

@@ -15,7 +15,7 @@ use Rattle.player_model.specs.ImaTrack.{blocks_of, list_of}
 use Rattle.player_model.specs.Stored.{blocks_in}
 use Rattle.player_model.proofs.ImaWalks.{sound_head}
 use Rattle.loop_fit.specs.declared.fitted.Fitted.{Fitted}
-use Rattle.command_plan.specs.declared.input_fault.ShapePart.TheVariants.{Align, Blocks as BlockCount}
+use Rattle.command_faults.specs.declared.input_fault.ShapePart.TheVariants.{Align, Blocks as BlockCount}
 use Rattle.bank_kinds.specs.Replay.{sound_of}
 use Rattle.bank_check.specs.Shape.{tested, framed_shape}
 use Rattle.bank_check.specs.Errors.{where_shaped, framed_list}

@@ -9,8 +9,8 @@ use Rattle.adpcm_nums.proofs.FirstLaws.{none_passes}
 use Rattle.machine_core.specs.Decoder.{Decoder}
 use Rattle.machine_core.specs.Blocks.{Blocks, IsInRange, IsLegal, Obeys, rule_of}
 use Rattle.loop_fit.specs.declared.fitted.Fitted.{Fitted}
-use Rattle.command_plan.specs.declared.input_fault.InputFault.{InputFault}
-use Rattle.command_plan.specs.declared.input_fault.ShapePart.{ShapePart}
+use Rattle.command_faults.specs.declared.input_fault.InputFault.{InputFault}
+use Rattle.command_faults.specs.declared.input_fault.ShapePart.{ShapePart}
 use Rattle.bank_kinds.specs.Codec.{Codec, fixed_in}
 use Rattle.bank_check.specs.Shape.{tested, head_tested, is_unruled, flagged_shape, block_number}
 use Rattle.bank_check.specs.Errors.{error_in, where_shaped, IsStoredError}

@@ -14,8 +14,8 @@ use Rattle.bound_cert.specs.Content.{Segment}
 use Rattle.bound_cert.specs.Good.{blocks_in}
 use Rattle.cert_check.specs.declared.checking.CellFault.{CellFault}
 use Rattle.cert_check.specs.Layers.{certificate_in}
-use Rattle.command_plan.specs.declared.refusal.CertRefusal.{CertRefusal}
-use Rattle.command_plan.specs.declared.refusal.CertRefusal.TheVariants.{Cell, Bound}
+use Rattle.command_faults.specs.declared.refusal.CertRefusal.{CertRefusal}
+use Rattle.command_faults.specs.declared.refusal.CertRefusal.TheVariants.{Cell, Bound}
 use Rattle.bank_check.specs.declared.tally.Tally.{Tally}
 use Rattle.bank_check.specs.Cells.{segment_fault}
 use Rattle.bank_check.specs.Proven.{bound_or, segment_bound}

@@ -26,8 +26,8 @@ use Rattle.player_model.specs.SpuTrack.{spu_track_of, split_track, checked_track
 use Rattle.player_model.proofs.BrrWalks.{is_track, walked}
 use Rattle.player_model.proofs.SpuWalks.{split-track, whole_track}
 use Rattle.loop_fit.specs.declared.fitted.Fitted.{Fitted}
-use Rattle.command_plan.specs.declared.input_fault.InputFault.{InputFault}
-use Rattle.command_plan.specs.declared.input_fault.InputFault.TheVariants.{Track as OfTrack}
+use Rattle.command_faults.specs.declared.input_fault.InputFault.{InputFault}
+use Rattle.command_faults.specs.declared.input_fault.InputFault.TheVariants.{Track as OfTrack}
 use Rattle.bank_check.specs.Shape.{flagged_shape}
 use Rattle.bank_check.specs.Stored.{or_fault, track_list}
 use Rattle.bank_check.specs.Errors.{error_in, where_shaped, brr_list, spu_list}

@@ -15,8 +15,8 @@ use Rattle.player_model.specs.SpuTrack.{spu_track_of}
 use Rattle.player_model.specs.ImaTrack.{blocks_of, list_of}
 use Rattle.ima_wave.specs.declared.file.ImaFile.{ImaFile}
 use Rattle.loop_fit.specs.declared.fitted.Fitted.{Fitted}
-use Rattle.command_plan.specs.declared.input_fault.InputFault.{InputFault}
-use Rattle.command_plan.specs.declared.input_fault.InputFault.TheVariants.{Track as OfTrack}
+use Rattle.command_faults.specs.declared.input_fault.InputFault.{InputFault}
+use Rattle.command_faults.specs.declared.input_fault.InputFault.TheVariants.{Track as OfTrack}
 use Rattle.bank_kinds.specs.Codec.{Codec, fixed_in}
 use Rattle.bank_kinds.specs.Fits.{error_of}
 use Rattle.bank_kinds.specs.Replay.{sound_of}

@@ -1,6 +1,6 @@
 -- A refusal beside want of memory.
 use Rattle.std.specs.Prelude.{Result, Ok, Err}
-use Rattle.command_plan.specs.declared.refusal.CertRefusal.{CertRefusal}
+use Rattle.command_faults.specs.declared.refusal.CertRefusal.{CertRefusal}
 use Rattle.bank_check.specs.declared.failure.CertFailure.{CertFailure}
 use Rattle.bank_check.specs.declared.failure.CertFailure.TheVariants.{Refused}
 

@@ -10,8 +10,8 @@ use Rattle.bound_cert.specs.declared.fault.CertFault.{CertFault}
 use Rattle.cert_check.specs.declared.checking.CellFault.{CellFault}
 use Rattle.cert_check.specs.Layers.{certificate_in}
 use Rattle.loop_fit.specs.declared.fitted.Fitted.{Fitted}
-use Rattle.command_plan.specs.declared.refusal.CertRefusal.{CertRefusal}
-use Rattle.command_plan.specs.declared.refusal.CertRefusal.TheVariants.{Grammar, Cell, Bound}
+use Rattle.command_faults.specs.declared.refusal.CertRefusal.{CertRefusal}
+use Rattle.command_faults.specs.declared.refusal.CertRefusal.TheVariants.{Grammar, Cell, Bound}
 use Rattle.bank_kinds.specs.Codec.{Codec}
 use Rattle.bank_kinds.specs.Certified.{levels_of, segments_in}
 use Rattle.bank_check.specs.declared.proven.Proven.{Proven}

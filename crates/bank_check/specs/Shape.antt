@@ -7,10 +7,10 @@ use Rattle.adpcm_nums.specs.declared.loop_at.LoopAt.{LoopAt}
 use Rattle.machine_core.specs.Blocks.{Blocks, rule_of}
 use Rattle.machine_core.specs.Decoder.{Decoder}
 use Rattle.loop_fit.specs.declared.fitted.Fitted.{Fitted}
-use Rattle.command_plan.specs.declared.input_fault.InputFault.{InputFault}
-use Rattle.command_plan.specs.declared.input_fault.InputFault.TheVariants.{Shape}
-use Rattle.command_plan.specs.declared.input_fault.ShapePart.{ShapePart}
-use Rattle.command_plan.specs.declared.input_fault.ShapePart.TheVariants.{Align, Blocks as BlockCount, LoopBlock, Head, Frames, LoopStart, LoopEnd}
+use Rattle.command_faults.specs.declared.input_fault.InputFault.{InputFault}
+use Rattle.command_faults.specs.declared.input_fault.InputFault.TheVariants.{Shape}
+use Rattle.command_faults.specs.declared.input_fault.ShapePart.{ShapePart}
+use Rattle.command_faults.specs.declared.input_fault.ShapePart.TheVariants.{Align, Blocks as BlockCount, LoopBlock, Head, Frames, LoopStart, LoopEnd}
 
 -- a part that must be what is asked for
 abbrev pub tested : ShapePart → ℕ → ℕ → Result ⊤ InputFault

@@ -20,9 +20,9 @@ use Rattle.snes_directory.specs.declared.image.Image.{Image}
 use Rattle.vag_writer.specs.Reading.{vag_of}
 use Rattle.ima_wave.specs.Reading.{ima_of}
 use Rattle.loop_fit.specs.declared.fitted.Fitted.{Fitted}
-use Rattle.command_plan.specs.declared.input_fault.InputFault.{InputFault}
-use Rattle.command_plan.specs.declared.input_fault.InputFault.TheVariants.{Image as OfImage, Vag, Ima as OfIma, Track as OfTrack, FileLong}
-use Rattle.command_plan.specs.declared.input_fault.ShapePart.TheVariants.{Entries}
+use Rattle.command_faults.specs.declared.input_fault.InputFault.{InputFault}
+use Rattle.command_faults.specs.declared.input_fault.InputFault.TheVariants.{Image as OfImage, Vag, Ima as OfIma, Track as OfTrack, FileLong}
+use Rattle.command_faults.specs.declared.input_fault.ShapePart.TheVariants.{Entries}
 use Rattle.bank_kinds.specs.Replay.{sound_of}
 use Rattle.bank_check.specs.Shape.{tested, flagged_shape, framed_shape}
 

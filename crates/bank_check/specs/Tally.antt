@@ -4,7 +4,7 @@ use Rattle.adpcm_nums.specs.Outcome.{◌>>=◌}
 use Rattle.machine_core.specs.Rules.{Rules}
 use Rattle.machine_core.specs.Segments.{part_targets}
 use Rattle.bound_cert.specs.Content.{Segment}
-use Rattle.command_plan.specs.declared.refusal.CertRefusal.{CertRefusal}
+use Rattle.command_faults.specs.declared.refusal.CertRefusal.{CertRefusal}
 use Rattle.bank_check.specs.declared.tally.Tally.{Tally}
 use Rattle.bank_check.specs.Proven.{segment_bound}
 

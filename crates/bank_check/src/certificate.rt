@@ -15,7 +15,7 @@ use adpcm_nums::NoMemory;
 use bank_kinds::Encode;
 use bound_cert::{CertShape, read_cert};
 use brr_machine::Brr;
-use command_plan::CertRefusal;
+use command_faults::CertRefusal;
 use ima_machine::Ima;
 use loop_fit::{Fitted, segments};
 use machine_core::Kind;

@@ -1,4 +1,4 @@
-use command_plan::{CertRefusal, InputFault};
+use command_faults::{CertRefusal, InputFault};
 use thiserror::Error;
 
 /// Why a certificate proves nothing of a sound.

@@ -12,7 +12,7 @@ use crate::fields::Fields;
 use crate::hearing::stored_error;
 use crate::shape::flagged_shape;
 use brr_machine::Brr;
-use command_plan::InputFault;
+use command_faults::InputFault;
 use loop_fit::Fitted;
 use player_model::{brr_track, spu_track};
 use spu_machine::Spu;

@@ -7,7 +7,7 @@ ghost use Rattle.bank_check.specs.Errors.{error_in, framed_list, IsStoredError};
 
 use crate::hearing::stored_error;
 use crate::shape::framed_shape;
-use command_plan::InputFault;
+use command_faults::InputFault;
 use ima_machine::Ima;
 use ima_wave::ImaFile;
 use loop_fit::Fitted;

@@ -6,7 +6,7 @@ ghost use Rattle.bank_check.specs.Shape.{block_number, end_number, flagged_shape
 use crate::fields::Fields;
 use crate::hearing::first_unruled;
 use adpcm_nums::LoopAt;
-use command_plan::{InputFault, ShapePart};
+use command_faults::{InputFault, ShapePart};
 use ima_wave::ImaFile;
 use loop_fit::Fitted;
 

@@ -13,7 +13,7 @@ use crate::failure::StoredFailure;
 use crate::flagged::{brr_error, spu_error};
 use crate::framed::framed_error;
 use crate::shape::tested;
-use command_plan::{InputFault, ShapePart};
+use command_faults::{InputFault, ShapePart};
 use ima_wave::{ImaWaveFault, read_ima};
 use loop_fit::Fitted;
 use snes_directory::{Image, ImageFault, read_image};

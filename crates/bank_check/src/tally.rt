@@ -8,7 +8,7 @@ ghost use Rattle.bank_check.specs.Tally.{counted, nothing, with_segment, tally_f
 
 use bound_cert::{CertView, SegmentView, segments_fit};
 use cert_check::check;
-use command_plan::CertRefusal;
+use command_faults::CertRefusal;
 use machine_core::Machine;
 
 /// What the segments that were tested so far come to.

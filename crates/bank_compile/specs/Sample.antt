@@ -2,7 +2,7 @@
 use Rattle.std.specs.Prelude.{◌≡◌, ℕ, ◌+◌, ◌/◌, ℤ, List, [], ◌∷◌, length, map}
 use Rattle.std.specs.Bool.{⊤}
 use Rattle.std.specs.List.{sum_by}
-use Rattle.machine_core.specs.Blocks.{Blocks}
+use Rattle.machine_core.specs.Blocks.{Blocks, IsLegal}
 use Rattle.machine_core.specs.Rules.{Rules}
 use Rattle.machine_core.specs.Segments.{part_targets, joined}
 use Rattle.loop_fit.specs.declared.fitted.Fitted.{Fitted}
@@ -11,24 +11,20 @@ use Rattle.bound_cert.specs.Spelling.{cert_bytes}
 use Rattle.branch_bound.specs.declared.top.Found.{Found}
 use Rattle.report_text.specs.declared.report.SampleReport.{SampleReport}
 use Rattle.bank_compile.specs.declared.sample.SampleOut.{SampleOut}
+use Rattle.manifest_reader.specs.declared.effort.Effort.{Effort}
 use Rattle.bank_compile.specs.Segment.{IsFound}
 use Rattle.bank_kinds.specs.Chosen.{list_of}
-use Rattle.bank_kinds.specs.Codec.{Codec}
+use Rattle.bank_kinds.specs.Codec.{Codec, fixed_in}
 use Rattle.bank_kinds.specs.Certified.{levels_of, segments_in}
 use Rattle.bank_kinds.specs.Fits.{bytes_of, first_of, error_of, loop_shown}
 
--- how a sample is searched: the beam's width, and how many cells all its segments may list
-pub record Effort : Type 0 where
-  pub width : ℕ
-  pub budget : ℕ
-
 -- what is found for each segment from block b on
-abbrev pub AreFound : Rules → ℕ → ℕ → List ℤ → ℕ → List ℕ → List Found → Type 0
-AreFound r width share targets b [] [] = ⊤
-AreFound r width share targets b [] (f ∷ fs) = ⊥
-AreFound r width share targets b (count ∷ counts) [] = ⊥
-AreFound r width share targets b (count ∷ counts) (f ∷ fs) =
-    IsFound r width share (part_targets r.decoder targets b count) count f × AreFound r width share targets (b + count) counts fs
+abbrev pub AreFound : Rules → Effort → ℕ → List ℤ → ℕ → List ℕ → List Found → Type 0
+AreFound r effort share targets b [] [] = ⊤
+AreFound r effort share targets b [] (f ∷ fs) = ⊥
+AreFound r effort share targets b (count ∷ counts) [] = ⊥
+AreFound r effort share targets b (count ∷ counts) (f ∷ fs) =
+    IsFound r effort share (part_targets r.decoder targets b count) count f × AreFound r effort share targets (b + count) counts fs
 
 -- their lists, one after another
 abbrev pub list_in : List Found → Blocks
@@ -41,7 +37,7 @@ share_of c effort fitted = effort.budget / length (segments_in c fitted)
 
 -- what is found for a fitted sound, segment by segment
 abbrev pub IsChosen : Codec → Effort → Fitted → List Found → Type 0
-IsChosen c effort fitted founds = AreFound c.rules effort.width (share_of c effort fitted) fitted.targets 0 (segments_in c fitted) founds
+IsChosen c effort fitted founds = AreFound c.rules effort (share_of c effort fitted) fitted.targets 0 (segments_in c fitted) founds
 
 -- what is told of the sample
 abbrev pub report_of : Codec → List ℕ → Fitted → List Found → SampleReport
@@ -76,3 +72,13 @@ pub record IsCompiled (c : Codec) (effort : Effort) (name : List ℕ) (rate : �
 abbrev pub beam_sums : Rules → ℕ → List ℤ → ℕ → List ℕ → ℕ
 beam_sums r width targets b [] = 0
 beam_sums r width targets b (count ∷ counts) = beam_sum r.decoder width (part_targets r.decoder targets b count) + beam_sums r width targets (b + count) counts
+
+-- the sum of the errors of the beams of a width for the segments of a fitted sound
+abbrev pub beams_error : Codec → ℕ → Fitted → ℕ
+beams_error c width fitted = beam_sums c.rules width fitted.targets 0 (segments_in c fitted)
+
+-- a list of blocks that may be stored for a fitted sound has just this error
+pub record IsReached (c : Codec) (fitted : Fitted) (error : ℕ) : Type 0 where
+  pub list : Blocks
+  pub legal : IsLegal c.rules.decoder fitted.blocks (fixed_in c fitted) list
+  pub error_is : error ≡ error_of c fitted list

@@ -1,8 +1,8 @@
 -- The cases of a command, over plain variables.
 use Rattle.std.proofs.Common.{◌≡◌, List, ℕ, sym, subst, Option, Some, None, refl}
 use Rattle.host_files.specs.Outside.{World, Files}
-use Rattle.command_plan.specs.declared.status.Status.{Status}
-use Rattle.command_plan.specs.declared.status.Status.TheVariants.{Words}
+use Rattle.command_faults.specs.declared.status.Status.{Status}
+use Rattle.command_faults.specs.declared.status.Status.TheVariants.{Words}
 use Rattle.command_plan.specs.Ending.{has_line, ending_of}
 use Rattle.command_plan.specs.Steps.{Told}
 use Rattle.command_plan.specs.Promise.{Promises}
@@ -22,9 +22,9 @@ use Rattle.tool_compile.proofs.CompiledSteps.{answers_compile}
 use Rattle.tool_check.specs.Check.{check_course}
 use Rattle.tool_check.specs.Checked.{MayTell, AnswersCheck}
 use Rattle.tool_check.proofs.CheckedSteps.{answers_check}
-use Rattle.tool_bound.specs.Bound.{bound_course}
-use Rattle.tool_bound.specs.Bounded.{MayBound, AnswersBound}
-use Rattle.tool_bound.proofs.BoundedSteps.{answers_bound}
+use Rattle.tool_check.specs.Bound.{bound_course}
+use Rattle.tool_check.specs.Bounded.{MayBound, AnswersBound}
+use Rattle.tool_check.proofs.BoundedSteps.{answers_bound}
 use Rattle.tool_compile.specs.Make.{make_course, IsMade, AnswersMake}
 use Rattle.tool_compile.proofs.MakeSteps.{answers_make}
 use Rattle.bank_tool.specs.Commands.{course_of, choice_of}

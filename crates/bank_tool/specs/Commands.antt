@@ -1,7 +1,7 @@
 -- What each command promises: one case for each in both definitions, and one for words that are no command.
 use Rattle.std.specs.Prelude.{Option, Some, None}
 use Rattle.host_files.specs.Outside.{Files}
-use Rattle.command_plan.specs.declared.status.Status.TheVariants.{Words}
+use Rattle.command_faults.specs.declared.status.Status.TheVariants.{Words}
 use Rattle.command_plan.specs.Reading.{Reading, decided}
 use Rattle.command_plan.specs.Promise.{Choice}
 use Rattle.tool_words.specs.declared.words.Command.{Command}
@@ -10,8 +10,8 @@ use Rattle.tool_block.specs.Block.{block_course, targets_in, IsBlock}
 use Rattle.tool_compile.specs.Compile.{compile_course, MayStore}
 use Rattle.tool_check.specs.Check.{check_course}
 use Rattle.tool_check.specs.Checked.{MayTell}
-use Rattle.tool_bound.specs.Bound.{bound_course}
-use Rattle.tool_bound.specs.Bounded.{MayBound}
+use Rattle.tool_check.specs.Bound.{bound_course}
+use Rattle.tool_check.specs.Bounded.{MayBound}
 use Rattle.tool_decompile.specs.Decompile.{decompile_course, entries_in, IsDecompiled}
 use Rattle.tool_play.specs.Played.{said_read, play_course, IsPlayed}
 use Rattle.tool_compile.specs.Make.{make_course, IsMade}

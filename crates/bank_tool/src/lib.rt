@@ -1,7 +1,7 @@
 //! The commands of the program, over any host.
 //!
 //! [`run`] reads the words and does what they ask for. Each command has a crate of its own with a public call: `tool_block`,
-//! `tool_compile` (`compile` and `make`), `tool_check`, `tool_bound`, `tool_decompile` and `tool_play`. They stand over `tool_files`, which
+//! `tool_compile` (`compile` and `make`), `tool_check` (`check` and `bound`), `tool_decompile` and `tool_play`. They stand over `tool_files`, which
 //! fetches the files of a bank, and `command_plan`, which says how a command's function is written; `tool_words` reads the words.
 //!
 //! A command joins by one case each in `course_of`, `choice_of` and `obey`.
@@ -10,30 +10,12 @@
 mod laws;
 mod top;
 
-pub use command_plan::{HostCall, InputFault, Status};
+pub use command_faults::{HostCall, InputFault, Status};
 pub use laws::compiled_is_given_back;
 pub use tool_block::run_block;
-pub use tool_bound::run_bound;
-pub use tool_check::run_check;
+pub use tool_check::{run_bound, run_check};
 pub use tool_compile::{run_compile, run_make};
 pub use tool_decompile::run_decompile;
 pub use tool_play::run_play;
 pub use tool_words::{Command, read_words};
 pub use top::run;
-
-#[cfg(test)]
-mod bound_tests;
-#[cfg(test)]
-mod check_tests;
-#[cfg(test)]
-mod compile_tests;
-#[cfg(test)]
-mod decompile_tests;
-#[cfg(test)]
-mod play_tests;
-#[cfg(test)]
-mod test_files;
-#[cfg(test)]
-mod test_host;
-#[cfg(test)]
-mod tests;

@@ -9,20 +9,20 @@ ghost use Rattle.tool_words.specs.Words.{command_of};
 ghost use Rattle.tool_block.specs.Block.{AnswersBlock};
 ghost use Rattle.tool_compile.specs.Compiled.{AnswersCompile};
 ghost use Rattle.tool_check.specs.Checked.{AnswersCheck};
-ghost use Rattle.tool_bound.specs.Bounded.{AnswersBound};
+ghost use Rattle.tool_check.specs.Bounded.{AnswersBound};
 ghost use Rattle.tool_decompile.specs.Decompile.{AnswersDecompile};
 ghost use Rattle.tool_play.specs.Played.{AnswersPlay};
 ghost use Rattle.tool_compile.specs.Make.{AnswersMake};
 ghost use Rattle.bank_tool.specs.Commands.{course_of, choice_of};
 
 use adpcm_nums::NoMemory;
-use command_plan::{Status, finish};
+use command_faults::Status;
+use command_plan::finish;
 use decompile_core::sounds_for_ever;
 use host_files::Host;
 use std::alloc::Global;
 use tool_block::run_block;
-use tool_bound::run_bound;
-use tool_check::run_check;
+use tool_check::{run_bound, run_check};
 use tool_compile::{run_compile, run_make};
 use tool_decompile::run_decompile;
 use tool_play::run_play;
@@ -42,7 +42,8 @@ pub fn run<H: Host>(alloc: Global, host: &mut H, words: &[String]) -> Status
     ensures block { (files : Files) (input output : List ℕ) → (H.world host.old).files ≡ Some files → command_of (map string_bytes words.now) ≡ Some (Command.Block input output) →
         AnswersBlock files input output (H.world host.old) (H.world host.new) result }
     // What it says of `compile`: the stored bank plays as its first passes sound, the told errors are exact, no list of
-    // blocks that may be stored has an error below a told bound, and a told gap of 0 means that none has a smaller error.
+    // blocks that may be stored has an error below a told bound, and a told gap of 0 means that none has a smaller error; a told error
+    // is at most the sum of the beams' errors, and the bound where every segment was searched state by state.
     ensures compile { (files : Files) (manifest : List ℕ) → (H.world host.old).files ≡ Some files → command_of (map string_bytes words.now) ≡ Some (Command.Compile manifest) →
         AnswersCompile files manifest (H.world host.old) (H.world host.new) result }
     // What it says of `check`, whoever made the stored files: each stored list is legal, its told error is exact, and no list of

@@ -6,6 +6,3 @@ mod split;
 
 pub use flags::{FlagSet, flagged, flags_of};
 pub use split::{Split, SplitFault, split_blocks};
-
-#[cfg(test)]
-mod tests;

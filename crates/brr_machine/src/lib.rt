@@ -26,6 +26,3 @@ pub use machine::Brr;
 pub use step::{brr_forgets, brr_output};
 pub use stored::{code_at, flags_at, head_at};
 pub use zero::{encode_zero, zero_is_least};
-
-#[cfg(test)]
-mod tests;

@@ -4,12 +4,12 @@ use Rattle.std.proofs.lemmas.Bool.{true≢false}
 use Rattle.std.proofs.lemmas.Option.{slice_get_within}
 use Rattle.adpcm_nums.specs.Outcome.{Tells}
 use Rattle.host_files.specs.Outside.{World, Files, grown, raised}
-use Rattle.command_plan.specs.declared.status.Status.{Status}
-use Rattle.command_plan.specs.declared.status.Status.TheVariants.{Memory}
-use Rattle.command_plan.specs.declared.status.HostCall.{HostCall}
-use Rattle.command_plan.specs.declared.status.HostCall.TheVariants.{Fetch, Store, Say}
+use Rattle.command_faults.specs.declared.status.Status.{Status}
+use Rattle.command_faults.specs.declared.status.Status.TheVariants.{Memory}
+use Rattle.command_faults.specs.declared.status.HostCall.{HostCall}
+use Rattle.command_faults.specs.declared.status.HostCall.TheVariants.{Fetch, Store, Say}
 use Rattle.command_plan.specs.Ending.{Ending, Finished, Declined, Broken, Starved, ending_of, is_device, is_broken, has_line}
-use Rattle.command_plan.specs.Lines.{fault_line}
+use Rattle.command_faults.specs.Lines.{fault_line}
 use Rattle.command_plan.specs.Plan.{Plan, PartlySet, Refuses, Breaks, LeftAt, CameTo, refused as was_refused, failed, RunsShort, FollowsTo, Follows}
 use Rattle.command_plan.specs.Steps.{Stays, Stops, ComesTo, Comes, SaysIts, Tries, Told}
 use Rattle.command_plan.proofs.Fronts.{front_none, front_of}

@@ -4,9 +4,9 @@ use Rattle.std.proofs.lemmas.Bool.{true≢false}
 use Rattle.adpcm_nums.specs.Outcome.{Tells}
 use Rattle.host_files.specs.Outside.{World, raised}
 use Rattle.host_files.specs.declared.named_file.NamedFile.{NamedFile}
-use Rattle.command_plan.specs.declared.status.Status.{Status}
-use Rattle.command_plan.specs.declared.status.Status.TheVariants.{Done, Memory}
-use Rattle.command_plan.specs.declared.status.HostCall.{HostCall}
+use Rattle.command_faults.specs.declared.status.Status.{Status}
+use Rattle.command_faults.specs.declared.status.Status.TheVariants.{Done, Memory}
+use Rattle.command_faults.specs.declared.status.HostCall.{HostCall}
 use Rattle.command_plan.specs.Ending.{Declined, ending_of, has_line, is_early, is_device}
 use Rattle.command_plan.specs.Plan.{Plan, Completes, Follows, names_in}
 use Rattle.command_plan.specs.Reading.{Reading, decided, unwritten, writing_calls}

@@ -2,8 +2,8 @@
 use Rattle.std.proofs.Common.{◌≡◌, ℕ, zero, suc, ◌+◌, ◌≤◌, List, [], ◌∷◌, ◌++◌, length, drop, refl, sym, ap, subst, ◌∙◌, append-nil, arith, Ok, Some, slice_get}
 use Rattle.std.proofs.lemmas.List.{append_assoc, drop_all}
 use Rattle.host_files.specs.Outside.{World}
-use Rattle.command_plan.specs.declared.status.Status.{Status}
-use Rattle.command_plan.specs.declared.status.Status.TheVariants.{Memory}
+use Rattle.command_faults.specs.declared.status.Status.{Status}
+use Rattle.command_faults.specs.declared.status.Status.TheVariants.{Memory}
 use Rattle.command_plan.specs.Read.{Read, as_reading, ◌>>=◌, read_all}
 use Rattle.command_plan.specs.Steps.{HasRead, Halts}
 use Rattle.command_plan.proofs.Readings.{halts_after}

@@ -3,9 +3,9 @@ use Rattle.std.proofs.Common.{◌≡◌, ℕ, suc, ◌+◌, List, [], ◌∷◌,
 use Rattle.std.proofs.lemmas.Grind.{common_steps}
 use Rattle.adpcm_nums.specs.Outcome.{Gives}
 use Rattle.host_files.specs.Outside.{World}
-use Rattle.command_plan.specs.declared.status.Status.{Status}
-use Rattle.command_plan.specs.declared.status.Status.TheVariants.{Done, Memory}
-use Rattle.command_plan.specs.declared.status.HostCall.{HostCall}
+use Rattle.command_faults.specs.declared.status.Status.{Status}
+use Rattle.command_faults.specs.declared.status.Status.TheVariants.{Done, Memory}
+use Rattle.command_faults.specs.declared.status.HostCall.{HostCall}
 use Rattle.command_plan.specs.Ending.{Declined, ending_of}
 use Rattle.command_plan.specs.Reading.{Reading, fetched, decided, status_of, Declines}
 use Rattle.command_plan.specs.Read.{Read, as_reading, given, fetched_for, read_on, ◌>>=◌, read_all, written_under, Reads}

@@ -1,10 +1,10 @@
 -- Readings one after another, and before the writing.
 use Rattle.std.proofs.Common.{◌≡◌, ℕ, ◌+◌, ◌≤◌, List, [], ◌++◌, length, refl, sym, ap, subst, ◌∙◌, arith, inl, true, Option, Result, Ok, Err}
 use Rattle.host_files.specs.Outside.{World, Files, grown}
-use Rattle.command_plan.specs.declared.status.Status.{Status}
-use Rattle.command_plan.specs.declared.status.Status.TheVariants.{Done, Memory}
-use Rattle.command_plan.specs.declared.status.HostCall.{HostCall}
-use Rattle.command_plan.specs.declared.status.HostCall.TheVariants.{Fetch, Store, Say}
+use Rattle.command_faults.specs.declared.status.Status.{Status}
+use Rattle.command_faults.specs.declared.status.Status.TheVariants.{Done, Memory}
+use Rattle.command_faults.specs.declared.status.HostCall.{HostCall}
+use Rattle.command_faults.specs.declared.status.HostCall.TheVariants.{Fetch, Store, Say}
 use Rattle.command_plan.specs.Ending.{Ending, Finished, Declined, Broken, Starved, ending_of, is_early}
 use Rattle.command_plan.specs.Plan.{Plan, PartlySet, LeftAt, SetBut, all_stored}
 use Rattle.command_plan.specs.Reading.{Reading, unwritten}

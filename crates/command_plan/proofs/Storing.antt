@@ -6,9 +6,9 @@ use Rattle.std.proofs.lemmas.List.{take_all}
 use Rattle.adpcm_nums.specs.Outcome.{Tells}
 use Rattle.host_files.specs.Outside.{World, Files, stored, without, grown, GrowsByFront, raised, Rose}
 use Rattle.host_files.specs.declared.named_file.NamedFile.{NamedFile}
-use Rattle.command_plan.specs.declared.status.Status.{Status}
-use Rattle.command_plan.specs.declared.status.Status.TheVariants.{Done, Device, Memory}
-use Rattle.command_plan.specs.declared.status.HostCall.TheVariants.{Store, Say}
+use Rattle.command_faults.specs.declared.status.Status.{Status}
+use Rattle.command_faults.specs.declared.status.Status.TheVariants.{Done, Device, Memory}
+use Rattle.command_faults.specs.declared.status.HostCall.TheVariants.{Store, Say}
 use Rattle.command_plan.specs.Plan.{names_in, all_stored, SetBut, Completes}
 use Rattle.command_plan.specs.Reading.{writing_calls}
 use Rattle.command_plan.specs.Steps.{Comes, Stops, Lacks, writing, HasStored}

@@ -1,9 +1,9 @@
 -- How a run ends, whatever the reason of a refusal. What is promised of a status goes by these four cases.
-use Rattle.std.specs.Prelude.{ℕ, Bool, true, false, not}
-use Rattle.command_plan.specs.declared.status.Status.{Status}
-use Rattle.command_plan.specs.declared.status.Status.TheVariants.{Done, Words, Manifest, Input, Unfit, Full, Refused, Device, Memory}
-use Rattle.command_plan.specs.declared.status.HostCall.{HostCall}
-use Rattle.command_plan.specs.declared.status.HostCall.TheVariants.{Fetch, Store, Say}
+use Rattle.std.specs.Prelude.{Bool, true, false, not}
+use Rattle.command_faults.specs.declared.status.Status.{Status}
+use Rattle.command_faults.specs.declared.status.Status.TheVariants.{Done, Words, Manifest, Input, Unfit, Full, Refused, Device, Memory}
+use Rattle.command_faults.specs.declared.status.HostCall.{HostCall}
+use Rattle.command_faults.specs.declared.status.HostCall.TheVariants.{Fetch, Store, Say}
 
 -- all was done, something was refused, a call of the host failed, or there was no memory
 pub data Ending : Type 0 where
@@ -23,18 +23,6 @@ ending_of (Full bank total) = Declined
 ending_of (Refused name fault) = Declined
 ending_of (Device at) = Broken at
 ending_of Memory = Starved
-
--- the code that the program ends with
-abbrev pub code_of : Status → ℕ
-code_of Done = 0
-code_of Words = 2
-code_of (Manifest fault) = 3
-code_of (Input name fault) = 4
-code_of (Unfit name fault) = 5
-code_of (Full bank total) = 6
-code_of (Refused name fault) = 7
-code_of (Device at) = 8
-code_of Memory = 9
 
 -- whether all was done
 abbrev pub is_finished : Ending → Bool

@@ -1,8 +1,4 @@
 pub mod Ending
-pub mod Rows
-pub mod CertWords
-pub mod FaultWords
-pub mod Lines
 pub mod Plan
 pub mod Reading
 pub mod Read

@@ -2,11 +2,11 @@
 use Rattle.std.specs.Prelude.{◌≡◌, ◌⊎◌, ℕ, ◌+◌, ◌≤◌, if◌then◌else◌, List, [], ◌∷◌, length, take, map, Option, Some, slice_get}
 use Rattle.host_files.specs.Outside.{World, Files, stored, without, grown, GrowsByFront, raised, Rose}
 use Rattle.host_files.specs.declared.named_file.NamedFile.{NamedFile}
-use Rattle.command_plan.specs.declared.status.Status.{Status}
-use Rattle.command_plan.specs.declared.status.HostCall.{HostCall}
-use Rattle.command_plan.specs.declared.status.HostCall.TheVariants.{Fetch, Store, Say}
+use Rattle.command_faults.specs.declared.status.Status.{Status}
+use Rattle.command_faults.specs.declared.status.HostCall.{HostCall}
+use Rattle.command_faults.specs.declared.status.HostCall.TheVariants.{Fetch, Store, Say}
 use Rattle.command_plan.specs.Ending.{Ending, Finished, Declined, Broken, Starved, ending_of, is_say}
-use Rattle.command_plan.specs.Lines.{fault_line}
+use Rattle.command_faults.specs.Lines.{fault_line}
 
 -- what a command is to do
 pub record Plan : Type 0 where

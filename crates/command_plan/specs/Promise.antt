@@ -2,8 +2,8 @@
 use Rattle.std.specs.Prelude.{true, ◌≡◌, ◌⊎◌, ℕ, List, [], length}
 use Rattle.host_files.specs.Outside.{World, grown, raised}
 use Rattle.host_files.specs.declared.named_file.NamedFile.{NamedFile}
-use Rattle.command_plan.specs.declared.status.Status.{Status}
-use Rattle.command_plan.specs.declared.status.Status.TheVariants.{Done}
+use Rattle.command_faults.specs.declared.status.Status.{Status}
+use Rattle.command_faults.specs.declared.status.Status.TheVariants.{Done}
 use Rattle.command_plan.specs.Ending.{ending_of, is_early}
 use Rattle.command_plan.specs.Plan.{Plan, Follows, all_stored}
 use Rattle.command_plan.specs.Reading.{Reading}

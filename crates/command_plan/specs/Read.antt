@@ -1,11 +1,11 @@
 -- Readings that give a value: the calls of the host up to the test that decides, and what that gives or refuses.
 use Rattle.std.specs.Prelude.{◌≡◌, ⊤, ℕ, suc, nat_lt, if◌then◌else◌, List, [], ◌∷◌, ◌++◌, length, Result, Ok, Err}
 use Rattle.host_files.specs.Outside.{World, Files, content_of}
-use Rattle.command_plan.specs.declared.status.Status.{Status}
-use Rattle.command_plan.specs.declared.status.Status.TheVariants.{Input}
-use Rattle.command_plan.specs.declared.input_fault.InputFault.{InputFault}
-use Rattle.command_plan.specs.declared.status.HostCall.{HostCall}
-use Rattle.command_plan.specs.declared.status.HostCall.TheVariants.{Fetch}
+use Rattle.command_faults.specs.declared.status.Status.{Status}
+use Rattle.command_faults.specs.declared.status.Status.TheVariants.{Input}
+use Rattle.command_faults.specs.declared.input_fault.InputFault.{InputFault}
+use Rattle.command_faults.specs.declared.status.HostCall.{HostCall}
+use Rattle.command_faults.specs.declared.status.HostCall.TheVariants.{Fetch}
 use Rattle.command_plan.specs.Reading.{Reading, status_of, writing_calls}
 use Rattle.command_plan.specs.Steps.{ReadsTo}
 

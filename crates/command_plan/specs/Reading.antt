@@ -1,9 +1,9 @@
 -- The calls of a command in order, and what they come to.
 use Rattle.std.specs.Prelude.{◌≡◌, ⊤, ℕ, List, [], ◌∷◌, ◌++◌, map, Result, Ok, Err}
-use Rattle.command_plan.specs.declared.status.Status.{Status}
-use Rattle.command_plan.specs.declared.status.Status.TheVariants.{Done}
-use Rattle.command_plan.specs.declared.status.HostCall.{HostCall}
-use Rattle.command_plan.specs.declared.status.HostCall.TheVariants.{Fetch, Store, Say}
+use Rattle.command_faults.specs.declared.status.Status.{Status}
+use Rattle.command_faults.specs.declared.status.Status.TheVariants.{Done}
+use Rattle.command_faults.specs.declared.status.HostCall.{HostCall}
+use Rattle.command_faults.specs.declared.status.HostCall.TheVariants.{Fetch, Store, Say}
 use Rattle.command_plan.specs.Ending.{Declined, ending_of}
 use Rattle.command_plan.specs.Plan.{Plan}
 

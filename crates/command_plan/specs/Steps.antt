@@ -2,12 +2,12 @@
 use Rattle.std.specs.Prelude.{Bool, true, false, ◌≡◌, ◌≢◌, ◌⊎◌, ℕ, ◌+◌, ◌≤◌, List, length, Option, Some, slice_get, Result, Ok, Err}
 use Rattle.host_files.specs.Outside.{World, grown, GrowsByFront, raised, Rose}
 use Rattle.host_files.specs.declared.named_file.NamedFile.{NamedFile}
-use Rattle.command_plan.specs.declared.status.Status.{Status}
-use Rattle.command_plan.specs.declared.status.Status.TheVariants.{Done, Words, Memory}
-use Rattle.command_plan.specs.declared.status.HostCall.{HostCall}
-use Rattle.command_plan.specs.declared.status.HostCall.TheVariants.{Fetch, Store, Say}
+use Rattle.command_faults.specs.declared.status.Status.{Status}
+use Rattle.command_faults.specs.declared.status.Status.TheVariants.{Done, Words, Memory}
+use Rattle.command_faults.specs.declared.status.HostCall.{HostCall}
+use Rattle.command_faults.specs.declared.status.HostCall.TheVariants.{Fetch, Store, Say}
 use Rattle.command_plan.specs.Ending.{Ending, Finished, Declined, Broken, Starved, ending_of, is_early, is_device}
-use Rattle.command_plan.specs.Lines.{fault_line}
+use Rattle.command_faults.specs.Lines.{fault_line}
 use Rattle.command_plan.specs.Plan.{Plan, Completes, LeftAt, PartlySet, names_in, all_stored}
 use Rattle.command_plan.specs.Reading.{Reading, unwritten, writing_calls}
 

@@ -2,8 +2,7 @@ ghost use Rattle.std.specs.Prelude.{◌≡◌};
 ghost use Rattle.command_plan.specs.Ending.{ending_of, has_line};
 ghost use Rattle.command_plan.specs.Steps.{Told};
 
-use crate::status::{HostCall, Status};
-use crate::status_line::status_line;
+use command_faults::{HostCall, Status, status_line};
 use host_files::{Host, HostFault};
 use std::alloc::Global;
 

@@ -4,9 +4,7 @@ ghost use Rattle.command_plan.specs.Read.{whole_read, Reads};
 ghost use Rattle.command_plan.specs.Reading.{fetched, status_of};
 ghost use Rattle.command_plan.specs.Steps.{Keeps, ReadsTo};
 
-use crate::input_fault::InputFault;
-use crate::status::Status;
-use crate::stops::{fetch_failed, input_refused};
+use command_faults::{InputFault, Status, fetch_failed, input_refused};
 use host_files::{Host, HostFault};
 use std::alloc::Global;
 

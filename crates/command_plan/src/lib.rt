@@ -10,9 +10,8 @@
 //! - `Choice`: which files may be stored and which line may be said, as a relation, since more
 //!   than one may be right.
 //! - `Promises` (and `Follows` below it): how the world stands after a run, whatever the host did,
-//!   by cases on how it ended. `Ending` has four cases. A new status adds a line to `ending_of`,
-//!   `code_of` and `parts_of`, and changes no proof; a new fault adds a row to `specs/FaultWords`
-//!   and `src/fault_words`.
+//!   by cases on how it ended. `Ending` has four cases. A new status adds a line to `ending_of`, and
+//!   changes no proof; statuses, faults and their lines stand in the crate `command_faults`.
 //!
 //! A command is written in this form:
 //!
@@ -33,22 +32,10 @@
 //! comes only where a fault rose, and never `Words` (`Keeps` of `specs/Steps`; `IsPlain` for functions that see no host).
 #![tactic(auto)]
 
-mod cert_words;
 mod closing;
-mod fault_words;
 mod fetch;
-mod input_fault;
-mod refusal;
-mod row;
-mod status;
-mod status_line;
-mod stops;
 mod write;
 
 pub use closing::finish;
 pub use fetch::{fetch_front, fetch_whole};
-pub use input_fault::{InputFault, ShapePart};
-pub use refusal::CertRefusal;
-pub use status::{HostCall, Status};
-pub use stops::{cert_refused, full, input_refused, unfit};
 pub use write::write_out;

@@ -1,8 +1,7 @@
 ghost use Rattle.command_plan.specs.Reading.{status_of};
 ghost use Rattle.command_plan.specs.Steps.{Comes, Keeps, writing, StoresTo};
 
-use crate::status::{HostCall, Status};
-use crate::stops::store_failed;
+use command_faults::{HostCall, Status, store_failed};
 use host_files::{Host, HostFault, NamedFile};
 use std::alloc::Global;
 

@@ -20,6 +20,3 @@ pub use fault::DecompileFault;
 pub use form::Form;
 pub use laws::{entries_are, given_back, sounds_for_ever};
 pub use recovered::{Recovered, Settles};
-
-#[cfg(test)]
-mod tests;

@@ -17,6 +17,3 @@ pub use memory::MemoryHost;
 pub use named_file::NamedFile;
 pub use real::RealHost;
 pub use steady::SteadyHost;
-
-#[cfg(test)]
-mod tests;

@@ -25,6 +25,3 @@ pub use laws::{
 };
 pub use machine::Ima;
 pub use stored::{code_at, first_at, head_at};
-
-#[cfg(test)]
-mod tests;

@@ -16,6 +16,3 @@ pub use file::ImaFile;
 pub use laws::written_is_read;
 pub use reading::read_ima;
 pub use writing::write_ima;
-
-#[cfg(test)]
-mod tests;

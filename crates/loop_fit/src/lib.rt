@@ -17,6 +17,3 @@ pub use fitting::fit;
 pub use laws::{fit_keeps, loop_target_is_least, unroll_is_quotient};
 pub use rule::{FitRule, Length, Start};
 pub use segment_list::segments;
-
-#[cfg(test)]
-mod tests;

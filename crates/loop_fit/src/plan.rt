@@ -5,7 +5,7 @@ ghost use Rattle.loop_fit.specs.Plan.{rounds_of, sized, plan_of};
 use crate::align::{front, loop_length, loop_target, unrolled};
 use crate::fault::FitFault;
 use crate::rule::{FitRule, Length};
-use adpcm_nums::LoopAt;
+use adpcm_nums::{LoopAt, MOST_BLOCKS, MOST_SAMPLES};
 
 /// The numbers of a fit, before its targets are laid.
 #[derive(Clone, Copy, Debug, PartialEq, Eq)]
@@ -47,7 +47,7 @@ fn sized(block: u32, blocks: u64) -> Result<u32, FitFault>
     ensures value { result ≡ sized block blocks }
     ensures small { IfOk result (λ n. n * block ≤ 262144) }
 {
-    if blocks > 4096 || blocks * u64::from(block) > 262_144 {
+    if blocks > u64::from(MOST_BLOCKS) || blocks * u64::from(block) > u64::from(MOST_SAMPLES) {
         return Err(FitFault::TooLong { blocks });
     }
     Ok(blocks as u32)

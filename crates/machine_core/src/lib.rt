@@ -5,6 +5,7 @@ mod boxes;
 mod cells;
 mod choice;
 mod floors;
+mod lane;
 mod laws;
 mod machine;
 mod pieces;
@@ -16,6 +17,7 @@ pub use boxes::{Bx, Cell};
 pub use cells::{cell_box, cell_of, point_box};
 pub use choice::Choice;
 pub use floors::{fill_rests, floor_of_blocks, rule_at, rule_for, rule_in};
+pub use lane::NO_LANE;
 pub use laws::{
     boxes_meet_cells, floors_hold, histories_fall_away, lanes_have_floors, rests_hold, states_fit,
     states_have_cells, sums_fit,

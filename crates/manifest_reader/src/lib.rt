@@ -2,6 +2,7 @@
 #![tactic(auto)]
 
 mod bank;
+mod effort;
 mod fault;
 mod keys;
 mod manifest;
@@ -9,10 +10,9 @@ mod names;
 mod reader;
 mod sample;
 mod stored;
-#[cfg(test)]
-mod tests;
 mod words;
 
+pub use effort::Effort;
 pub use fault::ManifestFault;
 pub use manifest::{Manifest, SampleEntry};
 pub use reader::read_manifest;

@@ -32,6 +32,3 @@ pub use player::StoredPlayer;
 pub use position::Position;
 pub use spu_walk::{SpuPlayer, SpuTrack, play_spu_at, spu_track};
 pub use track::StoredTrack;
-
-#[cfg(test)]
-mod tests;

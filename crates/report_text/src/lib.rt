@@ -5,8 +5,6 @@ mod fault;
 mod list;
 mod part;
 mod report;
-#[cfg(test)]
-mod tests;
 
 pub use fault::fault_line;
 pub use list::{Reported, report_of};

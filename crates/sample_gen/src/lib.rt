@@ -11,6 +11,3 @@ mod walker;
 pub use file::make_wave;
 pub use laws::made_wave_is_read;
 pub use sound::frames;
-
-#[cfg(test)]
-mod tests;

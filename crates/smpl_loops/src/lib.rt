@@ -12,6 +12,3 @@ pub use fault::LoopFault;
 pub use laws::written_loop_is_read;
 pub use reading::first_loop;
 pub use writing::sampler_body;
-
-#[cfg(test)]
-mod tests;

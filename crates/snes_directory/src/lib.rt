@@ -22,6 +22,3 @@ pub use layout::{Layout, end_address, is_past_end, lay_out};
 pub use part::ImagePart;
 pub use reading::read_image;
 pub use writing::write_image;
-
-#[cfg(test)]
-mod tests;

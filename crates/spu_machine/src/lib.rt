@@ -23,6 +23,3 @@ pub use laws::{lanes_act_alike, spelled_is_read, spu_forgets, states_and_costs_f
 pub use machine::Spu;
 pub use step::spu_output;
 pub use stored::{code_at, flags_at, head_at};
-
-#[cfg(test)]
-mod tests;

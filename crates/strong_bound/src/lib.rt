@@ -13,8 +13,6 @@ mod quiet;
 mod rests;
 mod states;
 mod suffixes;
-#[cfg(test)]
-mod tests;
 mod whole;
 mod window;
 

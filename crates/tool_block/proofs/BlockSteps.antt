@@ -9,10 +9,10 @@ use Rattle.brr_machine.specs.Spelling.{spelling}
 use Rattle.brr_machine.specs.Zero.{zero_head, best_shift, nearest_codes, zero_sum, shift_sum}
 use Rattle.host_files.specs.Outside.{World, Files, content_of, grown, raised}
 use Rattle.report_text.specs.Report.{block_line}
-use Rattle.command_plan.specs.declared.status.Status.{Status}
-use Rattle.command_plan.specs.declared.status.Status.TheVariants.{Done, Input, Memory}
-use Rattle.command_plan.specs.declared.input_fault.InputFault.TheVariants.{BlockLength}
-use Rattle.command_plan.specs.declared.status.HostCall.TheVariants.{Fetch, Store, Say}
+use Rattle.command_faults.specs.declared.status.Status.{Status}
+use Rattle.command_faults.specs.declared.status.Status.TheVariants.{Done, Input, Memory}
+use Rattle.command_faults.specs.declared.input_fault.InputFault.TheVariants.{BlockLength}
+use Rattle.command_faults.specs.declared.status.HostCall.TheVariants.{Fetch, Store, Say}
 use Rattle.command_plan.specs.Plan.{all_stored}
 use Rattle.command_plan.specs.Read.{Read, as_reading, given, fetched_for, whole_read, ◌>>=◌, written_under}
 use Rattle.command_plan.specs.Reading.{Reading, Declines, status_of}

@@ -9,9 +9,9 @@ use Rattle.brr_machine.specs.Zero.{zero_head, best_shift, nearest_codes, zero_bl
 use Rattle.host_files.specs.Outside.{World, Files, content_of, stored, grown, raised}
 use Rattle.host_files.specs.declared.named_file.NamedFile.{NamedFile}
 use Rattle.report_text.specs.Report.{block_line}
-use Rattle.command_plan.specs.declared.status.Status.{Status}
-use Rattle.command_plan.specs.declared.status.Status.TheVariants.{Done, Input, Memory}
-use Rattle.command_plan.specs.declared.input_fault.InputFault.TheVariants.{BlockLength}
+use Rattle.command_faults.specs.declared.status.Status.{Status}
+use Rattle.command_faults.specs.declared.status.Status.TheVariants.{Done, Input, Memory}
+use Rattle.command_faults.specs.declared.input_fault.InputFault.TheVariants.{BlockLength}
 use Rattle.command_plan.specs.Ending.{is_device}
 use Rattle.command_plan.specs.Read.{Read, as_reading, given, whole_read, ◌>>=◌, written_under}
 use Rattle.command_plan.specs.Reading.{Reading}

@@ -3,11 +3,11 @@ use Rattle.std.proofs.Common.{◌≡◌, ℕ, ◌+◌, ◌≤◌, List, length, 
 use Rattle.std.specs.Result.{IfOk}
 use Rattle.std.proofs.lemmas.List.{length-take, take_all}
 use Rattle.host_files.specs.Outside.{World}
-use Rattle.command_plan.specs.declared.status.Status.{Status}
-use Rattle.command_plan.specs.declared.status.Status.TheVariants.{Input, Refused}
+use Rattle.command_faults.specs.declared.status.Status.{Status}
+use Rattle.command_faults.specs.declared.status.Status.TheVariants.{Input, Refused}
 use Rattle.command_plan.specs.Reading.{Reading, Declines}
 use Rattle.command_plan.specs.Steps.{ReadsTo}
-use Rattle.command_plan.specs.declared.input_fault.InputFault.TheVariants.{FileLong}
+use Rattle.command_faults.specs.declared.input_fault.InputFault.TheVariants.{FileLong}
 use Rattle.manifest_reader.specs.Meaning.{Content}
 use Rattle.bank_kinds.specs.Kinds.{codec_for}
 use Rattle.bank_check.specs.Proven.{proven_of}

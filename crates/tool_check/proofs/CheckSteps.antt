@@ -13,15 +13,15 @@ use Rattle.bank_kinds.specs.Fits.{error_of, loop_shown}
 use Rattle.bank_kinds.specs.Kinds.{codec_for}
 use Rattle.bank_check.specs.declared.proven.Proven.{Proven}
 use Rattle.bank_check.specs.Errors.{IsStoredError}
-use Rattle.command_plan.specs.declared.status.Status.{Status}
-use Rattle.command_plan.specs.declared.status.Status.TheVariants.{Input, Memory}
+use Rattle.command_faults.specs.declared.status.Status.{Status}
+use Rattle.command_faults.specs.declared.status.Status.TheVariants.{Input, Memory}
 use Rattle.command_plan.specs.Read.{Read, as_reading, given, ◌>>=◌}
 use Rattle.command_plan.specs.Steps.{HasRead, Halts}
 use Rattle.command_plan.proofs.Readings.{halts_after}
 use Rattle.command_plan.proofs.ReadOn.{then_has, then_halts, first_halts, then-gives, given_has}
 use Rattle.tool_files.specs.declared.source.Source.{Source}
 use Rattle.tool_files.specs.Source.{or_told}
-use Rattle.tool_files.specs.Banks.{stored_by, stored_read}
+use Rattle.tool_check.specs.Banks.{stored_by, stored_read}
 use Rattle.tool_check.specs.Check.{proven_read, report_of, sample_read}
 use Rattle.tool_check.specs.Checked.{IsChecked}
 

@@ -5,14 +5,14 @@ use Rattle.host_files.specs.Outside.{World, Files}
 use Rattle.manifest_reader.specs.Meaning.{Content}
 use Rattle.snes_directory.specs.declared.image.Image.{Image}
 use Rattle.report_text.specs.declared.report.SampleReport.{SampleReport}
-use Rattle.command_plan.specs.declared.status.Status.{Status}
+use Rattle.command_faults.specs.declared.status.Status.{Status}
 use Rattle.command_plan.specs.Read.{Read, as_reading, read_all}
 use Rattle.command_plan.specs.Steps.{HasRead, Halts, ReadsTo}
 use Rattle.command_plan.specs.Promise.{Promises}
 use Rattle.command_plan.proofs.ReadOn.{then_has, then_halts, first_halts, then-gives}
 use Rattle.tool_files.specs.declared.source.Source.{Source}
-use Rattle.tool_files.specs.Banks.{image_by}
-use Rattle.tool_files.proofs.ComparedSteps.{answers_compared}
+use Rattle.tool_check.specs.Banks.{image_by}
+use Rattle.tool_check.proofs.ComparedSteps.{answers_compared}
 use Rattle.tool_check.specs.Check.{sample_read, bank_read, check_course}
 use Rattle.tool_check.specs.Checked.{AllChecked, IsReported, IsCheck, MayTell, AnswersCheck}
 

@@ -12,15 +12,15 @@ use Rattle.bank_kinds.specs.Kinds.{codec_for}
 use Rattle.bank_kinds.specs.Fits.{error_of, loop_shown}
 use Rattle.bank_check.specs.declared.proven.Proven.{Proven}
 use Rattle.bank_check.specs.Proven.{proven_of}
-use Rattle.command_plan.specs.declared.status.Status.{Status}
-use Rattle.command_plan.specs.declared.status.Status.TheVariants.{Input, Refused}
-use Rattle.command_plan.specs.declared.input_fault.InputFault.TheVariants.{FileLong}
+use Rattle.command_faults.specs.declared.status.Status.{Status}
+use Rattle.command_faults.specs.declared.status.Status.TheVariants.{Input, Refused}
+use Rattle.command_faults.specs.declared.input_fault.InputFault.TheVariants.{FileLong}
 use Rattle.command_plan.specs.Reading.{Reading}
 use Rattle.command_plan.specs.Read.{Read, given, fetched_for, ◌>>=◌, read_all}
 use Rattle.tool_files.specs.declared.source.Source.{Source}
 use Rattle.tool_files.specs.Source.{front_in, or_told}
-use Rattle.tool_files.specs.Banks.{image_by, stored_read}
-use Rattle.tool_files.specs.Compared.{comparison}
+use Rattle.tool_check.specs.Banks.{image_by, stored_read}
+use Rattle.tool_check.specs.Compared.{comparison}
 
 -- what the front of its certificate proves
 unfoldable pub proven_in : Content → Source → List ℕ → Result Proven Status

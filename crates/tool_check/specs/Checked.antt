@@ -12,10 +12,10 @@ use Rattle.bank_kinds.specs.Kinds.{codec_for}
 use Rattle.bank_kinds.specs.Fits.{error_of, loop_shown}
 use Rattle.bank_kinds.specs.Bound.{IsBound}
 use Rattle.bank_kinds.specs.Certified.{IsCertified}
-use Rattle.command_plan.specs.declared.status.Status.{Status}
+use Rattle.command_faults.specs.declared.status.Status.{Status}
 use Rattle.tool_files.specs.declared.source.Source.{Source}
-use Rattle.tool_files.specs.Banks.{image_by, stored_by}
-use Rattle.tool_files.specs.Compared.{IsToldOf, MaySay, AnswersCompared}
+use Rattle.tool_check.specs.Banks.{image_by, stored_by}
+use Rattle.tool_check.specs.Compared.{IsToldOf, MaySay, AnswersCompared}
 use Rattle.tool_check.specs.Check.{bank_read, check_text, check_course}
 
 -- the part that is said of one codec and of a certificate's bytes: this list is legal, this is its error, and this is a bound

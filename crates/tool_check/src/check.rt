@@ -9,16 +9,19 @@ ghost use Rattle.command_plan.specs.Steps.{Keeps, ReadsTo};
 ghost use Rattle.tool_check.specs.Check.{bank_read, check_course};
 ghost use Rattle.tool_check.specs.Checked.{AnswersCheck, IsReported, MayTell};
 ghost use Rattle.tool_files.specs.Sources.{manifest_read};
-ghost use Rattle.tool_files.specs.Compared.{compared};
+ghost use Rattle.tool_check.specs.Compared.{compared};
 ghost use Rattle.tool_files.specs.Ready.{IsReady};
 
 use crate::check_bank::check_samples;
-use command_plan::{Status, finish};
+use crate::images::fetch_image;
+use crate::said::say_report;
+use command_faults::Status;
+use command_plan::finish;
 use host_files::Host;
 use manifest_reader::Manifest;
 use report_text::SampleReport;
 use std::alloc::Global;
-use tool_files::{Source, fetch_image, fetch_manifest, fetch_sources, say_report};
+use tool_files::{Source, fetch_manifest, fetch_sources};
 
 /// The command `check MANIFEST`: fetches the manifest and the WAVE files that it names, compares what is stored for each with them, tests
 /// the stored certificates, and says the report.

@@ -9,20 +9,21 @@ ghost use Rattle.command_plan.specs.Reading.{status_of};
 ghost use Rattle.command_plan.specs.Steps.{Keeps, ReadsTo};
 ghost use Rattle.tool_files.specs.declared.source.Source.{Source};
 ghost use Rattle.tool_check.specs.Check.{sample_read};
-ghost use Rattle.tool_files.specs.Banks.{HasEntries};
+ghost use Rattle.tool_check.specs.Banks.{HasEntries};
 ghost use Rattle.tool_check.specs.Checked.{AllChecked, IsChecked};
 ghost use Rattle.tool_files.specs.Ready.{IsReady};
 
 use crate::fetch_proven::fetch_proven;
+use crate::fetch_stored::fetch_error;
 use adpcm_nums::{NoMemory, Text};
 use bank_kinds::shown;
-use command_plan::Status;
+use command_faults::Status;
 use host_files::Host;
 use manifest_reader::Manifest;
 use report_text::SampleReport;
 use snes_directory::Image;
 use std::alloc::Global;
-use tool_files::{Source, fetch_error};
+use tool_files::Source;
 
 /// What is told of sample `j` of a bank: the exact error of what is stored for it, and the bound that its certificate shows.
 fn check_sample<H: Host>(

@@ -15,17 +15,15 @@ use Rattle.manifest_reader.specs.Meaning.{Content}
 use Rattle.manifest_reader.specs.Stored.{cert_name_of, joined, image_names, stored_endings, stored_names}
 use Rattle.bank_kinds.specs.Kinds.{codec_for}
 use Rattle.bank_compile.specs.declared.sample.SampleOut.{SampleOut}
-use Rattle.bank_compile.specs.Sample.{Effort}
 use Rattle.bank_compile.specs.Bank.{bank_of, image_of, image_files, sample_files}
 use Rattle.bank_kinds.specs.Replay.{IsHeld, SampleReplays}
 use Rattle.bank_kinds.specs.Bound.{IsBound}
 use Rattle.bank_kinds.specs.Certified.{IsCertified}
-use Rattle.report_text.specs.declared.report.SampleReport.{SampleReport}
 use Rattle.command_plan.specs.Plan.{names_in, all_stored}
 use Rattle.command_plan.proofs.Kept.{kept_at}
 use Rattle.tool_files.specs.declared.source.Source.{Source}
 use Rattle.tool_compile.specs.Stored.{IsStored}
-use Rattle.tool_compile.specs.Compile.{bank_names, effort_of, IsMadeOf}
+use Rattle.tool_compile.specs.Compile.{bank_names, IsMadeOf}
 
 -- what holds of all elements, at one place
 pub all_at : {X : Type 0} (P : X → Type 0) (xs : List X) (j : ℕ) (x : X) → All P xs → slice_get xs j ≡ Some x → P x
@@ -45,15 +43,15 @@ sample-names Spu block bank out = refl
 sample-names Ima block bank out = refl
 
 -- and those of all samples have the names of the sources that they were made of
-made-names : (kind : Kind) (block : ℕ) (effort : Effort) (bank : List ℕ) (sources : List Source) (outs : List SampleOut) → AllZip (IsMadeOf kind block effort) sources outs
-    → names_in (flat_map (sample_files kind block bank) outs) ≡ flat_map (λ (s : Source). map (joined bank s.name) (stored_endings kind)) sources
-made-names kind block effort bank [] [] h = refl
-made-names kind block effort bank [] (o ∷ outs) h = absurd h
-made-names kind block effort bank (s ∷ sources) [] h = absurd h
-made-names kind block effort bank (s ∷ sources) (o ∷ outs) h =
-    map-append (λ (f : NamedFile). f.name) (sample_files kind block bank o) (flat_map (sample_files kind block bank) outs)
-    ∙ ap (λ ns. ns ++ names_in (flat_map (sample_files kind block bank) outs)) (sample-names kind block bank o ∙ ap (λ (x : SampleOut). map (joined bank x.name) (stored_endings kind)) h.0.made)
-    ∙ ap (λ ns. map (joined bank s.name) (stored_endings kind) ++ ns) (made-names kind block effort bank sources outs h.1)
+made-names : (m : Content) (sources : List Source) (outs : List SampleOut) → AllZip (IsMadeOf m) sources outs
+    → names_in (flat_map (sample_files m.kind m.block m.bank) outs) ≡ flat_map (λ (s : Source). map (joined m.bank s.name) (stored_endings m.kind)) sources
+made-names m [] [] h = refl
+made-names m [] (o ∷ outs) h = absurd h
+made-names m (s ∷ sources) [] h = absurd h
+made-names m (s ∷ sources) (o ∷ outs) h =
+    map-append (λ (f : NamedFile). f.name) (sample_files m.kind m.block m.bank o) (flat_map (sample_files m.kind m.block m.bank) outs)
+    ∙ ap (λ ns. ns ++ names_in (flat_map (sample_files m.kind m.block m.bank) outs)) (sample-names m.kind m.block m.bank o ∙ ap (λ (x : SampleOut). map (joined m.bank x.name) (stored_endings m.kind)) h.0.compiled.made)
+    ∙ ap (λ ns. map (joined m.bank s.name) (stored_endings m.kind) ++ ns) (made-names m sources outs h.1)
 
 -- where two lists have one name after another alike, so have their files
 named-alike : (f : List ℕ → List (List ℕ)) (sources : List Source) (entries : List SampleEntry) → map (λ (s : Source). s.name) sources ≡ map (λ (e : SampleEntry). e.name) entries
@@ -99,13 +97,13 @@ bank-files m outs writes e =
 
 -- so they have the names of a bank's files
 pub names_stored : (m : Content) (sources : List Source) (outs : List SampleOut) (writes : List NamedFile) → map (λ (s : Source). s.name) sources ≡ map (λ (e : SampleEntry). e.name) m.samples
-    → AllZip (IsMadeOf m.kind m.block (effort_of m)) sources outs → AreFiles m outs writes → names_in writes ≡ bank_names m
+    → AllZip (IsMadeOf m) sources outs → AreFiles m outs writes → names_in writes ≡ bank_names m
 unfolding stored_names
 names_stored m sources outs writes named made files =
     ap names_in files.files_are
     ∙ map-append (λ (f : NamedFile). f.name) files.images (flat_map (sample_files m.kind m.block m.bank) outs)
     ∙ ap (λ ns. ns ++ names_in (flat_map (sample_files m.kind m.block m.bank) outs)) (image-names m.kind m.bank m.base outs files.images files.images_are).0
-    ∙ ap (λ ns. image_names m.kind m.bank ++ ns) (made-names m.kind m.block (effort_of m) m.bank sources outs made ∙ named-alike (λ n. map (joined m.bank n) (stored_endings m.kind)) sources m.samples named)
+    ∙ ap (λ ns. image_names m.kind m.bank ++ ns) (made-names m sources outs made ∙ named-alike (λ n. map (joined m.bank n) (stored_endings m.kind)) sources m.samples named)
 
 -- and there are few
 pub few_files : (m : Content) (outs : List SampleOut) (writes : List NamedFile) → AreFiles m outs writes → length writes ≤ 1 + 3 * length outs
@@ -120,14 +118,16 @@ pub files_held : (before after : Files) (writes : List NamedFile) → IsDistinct
 files_held before after writes once set = λ k d within. kept_at before after writes k (get_or writes k d) once (slice_get-get_or writes k d within) set
 
 -- stored files that replay a source, and a certificate of a bound that holds, are what is promised of it
-pub stored_sample : (kind : Kind) (block : ℕ) (content : List ℕ → List ℕ) (bank : List ℕ) (j : ℕ) (source : Source) (report : SampleReport)
-    → SampleReplays kind block content bank source.name j source.rate source.fitted report.error
-    → IsCertified (codec_for kind block) (content (cert_name_of bank source.name)) source.fitted report.bound report.levels
-    → IsBound (codec_for kind block) source.fitted report.bound → IsStored kind block content bank j source report
-stored_sample kind block content bank j source report replays certified bound = record {
+pub stored_sample : (m : Content) (content : List ℕ → List ℕ) (j : ℕ) (source : Source) (out : SampleOut) → IsMadeOf m source out
+    → SampleReplays m.kind m.block content m.bank source.name j source.rate source.fitted out.report.error
+    → IsCertified (codec_for m.kind m.block) (content (cert_name_of m.bank source.name)) source.fitted out.report.bound out.report.levels
+    → IsBound (codec_for m.kind m.block) source.fitted out.report.bound → IsStored m content j source out.report
+stored_sample m content j source out made replays certified bound = record {
   replays = replays;
   certified = certified;
   bound = bound;
-  gap = subst (λ (n : ℕ). report.bound ≤ n) (sym replays.replays.error_is) (bound replays.entry.list replays.replays.legal);
-  optimal = λ e. subst (IsBound (codec_for kind block) source.fitted) (sym e) bound;
+  gap = subst (λ (n : ℕ). out.report.bound ≤ n) (sym replays.replays.error_is) (bound replays.entry.list replays.replays.legal);
+  optimal = λ e. subst (IsBound (codec_for m.kind m.block) source.fitted) (sym e) bound;
+  near_beam = made.near_beam;
+  whole = made.whole;
 }

@@ -3,7 +3,7 @@ use Rattle.std.proofs.Common.{◌≡◌, ℕ, List, subst, Ok}
 use Rattle.host_files.specs.Outside.{World, Files}
 use Rattle.host_files.specs.declared.named_file.NamedFile.{NamedFile}
 use Rattle.manifest_reader.specs.Meaning.{Content}
-use Rattle.command_plan.specs.declared.status.Status.{Status}
+use Rattle.command_faults.specs.declared.status.Status.{Status}
 use Rattle.command_plan.specs.Read.{as_reading, written_under}
 use Rattle.command_plan.specs.Steps.{HasRead, Comes, writing}
 use Rattle.command_plan.specs.Promise.{Reaches}

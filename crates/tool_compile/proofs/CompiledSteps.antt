@@ -2,7 +2,7 @@
 use Rattle.std.proofs.Common.{◌≡◌, ℕ, ◌+◌, List, length, refl, sym, ap, ◌∙◌, arith, Option, Some, Ok}
 use Rattle.host_files.specs.Outside.{World, Files, raised}
 use Rattle.manifest_reader.specs.Meaning.{Content}
-use Rattle.command_plan.specs.declared.status.Status.{Status}
+use Rattle.command_faults.specs.declared.status.Status.{Status}
 use Rattle.command_plan.specs.Plan.{all_stored}
 use Rattle.command_plan.specs.Read.{written_under}
 use Rattle.command_plan.specs.Promise.{Promises, Finishes}

@@ -1,5 +1,5 @@
 -- How `make` comes to its report, over plain variables.
-use Rattle.std.proofs.Common.{◌≡◌, ℕ, ◌<◌, ◌≤◌, ◌^◌, List, ℤ, [], ◌∷◌, length, refl, sym, ap, subst, ◌∙◌, arith, inl, inr, Option, Some, None, pos, Ok, Err, ◌==◌, if◌then◌else◌}
+use Rattle.std.proofs.Common.{◌≡◌, ℕ, List, ℤ, [], length, refl, sym, ap, subst, ◌∙◌, arith, inl, inr, Option, Some, None, pos, Ok, Err, ◌==◌, if◌then◌else◌}
 use Rattle.adpcm_nums.specs.Sample.{AreSamples}
 use Rattle.adpcm_nums.specs.declared.loop_at.LoopAt.{LoopAt}
 use Rattle.host_files.specs.Outside.{World, grown}
@@ -22,9 +22,8 @@ use Rattle.bank_kinds.specs.Kinds.{codec_for}
 use Rattle.bank_kinds.specs.Fits.{loop_shown}
 use Rattle.bank_kinds.specs.Bound.{IsBound}
 use Rattle.bank_compile.specs.declared.sample.SampleOut.{SampleOut}
-use Rattle.bank_compile.specs.Sample.{list_in}
-use Rattle.command_plan.specs.declared.status.Status.{Status}
-use Rattle.command_plan.specs.declared.status.Status.TheVariants.{Memory}
+use Rattle.command_faults.specs.declared.status.Status.{Status}
+use Rattle.command_faults.specs.declared.status.Status.TheVariants.{Memory}
 use Rattle.command_plan.specs.Plan.{Plan}
 use Rattle.command_plan.specs.Promise.{IsPlanOf, Reaches, Promises, Finishes}
 use Rattle.command_plan.specs.Steps.{Comes, writing}
@@ -118,8 +117,7 @@ told_in number kind name out m =
       named = ap (λ (o : SampleOut). o.report.name) made;
       blocks = ap (λ (o : SampleOut). o.report.blocks) made ∙ (ap (λ (f : Fitted). f.blocks) (sym same) ∙ known.blocks);
       shown = ap (λ (o : SampleOut). o.report.shown) made ∙ (ap (λ (f : Fitted). loop_shown f.loop_block f.loop_frames) (sym same) ∙ known.shown);
-      list = list_in m.compiled.founds;
-      error = ap (λ (o : SampleOut). o.report.error) made;
+      reached = m.reached;
       bound = m.bound;
       gap = m.gap;
       optimal = λ e. subst (IsBound (codec_for kind 256) m.fitted) (sym e) m.bound;

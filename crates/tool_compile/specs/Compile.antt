@@ -1,15 +1,15 @@
 -- The command `compile`: the files that a manifest names become the files of a bank.
-use Rattle.std.specs.Prelude.{◌≡◌, ⊤, ℕ, List, length, Some, slice_get, Ok}
+use Rattle.std.specs.Prelude.{◌≡◌, ◌≤◌, ⊤, ℕ, List, [], ◌∷◌, length, Some, slice_get, Ok}
 use Rattle.std.specs.List.{AllZip, IsDistinct}
 use Rattle.std.specs.Str.{bytes_eq}
 use Rattle.host_files.specs.Outside.{Files, content_of}
 use Rattle.host_files.specs.declared.named_file.NamedFile.{NamedFile}
-use Rattle.machine_core.specs.declared.state.Kind.{Kind}
 use Rattle.manifest_reader.specs.Meaning.{Content}
 use Rattle.manifest_reader.specs.Stored.{stored_names}
 use Rattle.bank_kinds.specs.Kinds.{codec_for}
 use Rattle.bank_compile.specs.declared.sample.SampleOut.{SampleOut}
-use Rattle.bank_compile.specs.Sample.{Effort, IsCompiled}
+use Rattle.manifest_reader.specs.declared.effort.Effort.{Effort}
+use Rattle.bank_compile.specs.Sample.{IsCompiled, beams_error}
 use Rattle.bank_compile.specs.Bank.{bank_of}
 use Rattle.bank_compile.specs.Told.{report_text}
 use Rattle.command_plan.specs.Plan.{names_in, all_stored}
@@ -35,22 +35,26 @@ compile_course files manifest = as_reading (manifest_read files manifest >>= ban
 
 -- how samples are searched, as the manifest says
 abbrev pub effort_of : Content → Effort
-effort_of m = record { width = m.beam; budget = m.budget }
+effort_of m = record { beam = m.beam; paths = m.paths; budget = m.budget }
 
 -- a source with what was made of it
-abbrev pub IsMadeOf : Kind → ℕ → Effort → Source → SampleOut → Type 0
-IsMadeOf kind block effort source out = IsCompiled (codec_for kind block) effort source.name source.rate source.fitted out
+pub record IsMadeOf (m : Content) (source : Source) (out : SampleOut) : Type 0 where
+  pub compiled : IsCompiled (codec_for m.kind m.block) (effort_of m) source.name source.rate source.fitted out
+  -- the told error is at most the sum of the errors of the manifest's beams, one for each segment
+  pub near_beam : out.report.error ≤ beams_error (codec_for m.kind m.block) m.beam source.fitted
+  -- and where every segment was searched state by state, it is the told bound
+  pub whole : (n : ℕ) → out.report.levels ≡ n ∷ 0 ∷ 0 ∷ 0 ∷ [] → out.report.bound ≡ out.report.error
 
 -- under their names the files hold what the report says of each source
-abbrev pub AllStored : Kind → ℕ → List ℕ → List Source → List SampleOut → Files → Type 0
-AllStored kind block bank sources outs files = (j : ℕ) (source : Source) (out : SampleOut) → slice_get sources j ≡ Some source → slice_get outs j ≡ Some out
-    → IsStored kind block (content_of files) bank j source out.report
+abbrev pub AllStored : Content → List Source → List SampleOut → Files → Type 0
+AllStored m sources outs files = (j : ℕ) (source : Source) (out : SampleOut) → slice_get sources j ≡ Some source → slice_get outs j ≡ Some out
+    → IsStored m (content_of files) j source out.report
 
 -- what is stored and said for these sources: some blocks are chosen for each, and all else is made of them
 pub record IsBank (m : Content) (sources : List Source) (writes : List NamedFile) (line : List ℕ) : Type 0 where
   -- what was made of each source
   pub outs : List SampleOut
-  pub made : AllZip (IsMadeOf m.kind m.block (effort_of m)) sources outs
+  pub made : AllZip (IsMadeOf m) sources outs
   pub files : bank_of m.kind m.block m.bank m.base outs ≡ Ok writes
   -- they have the names of a bank's files, of which no two are equal
   pub names : names_in writes ≡ bank_names m
@@ -58,7 +62,7 @@ pub record IsBank (m : Content) (sources : List Source) (writes : List NamedFile
   -- the report tells of each sample, and how many files there are
   pub told : line ≡ report_text outs (length writes)
   -- whatever was stored before, each sample is then stored and told as promised
-  pub stored : (before after : Files) → all_stored (Some before) writes ≡ Some after → AllStored m.kind m.block m.bank sources outs after
+  pub stored : (before after : Files) → all_stored (Some before) writes ≡ Some after → AllStored m sources outs after
 
 -- the files that `compile` may store, and the report that it may say
 pub record MayStore (files : Files) (manifest : List ℕ) (writes : List NamedFile) (line : List ℕ) : Type 0 where

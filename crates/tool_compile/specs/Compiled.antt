@@ -4,8 +4,8 @@ use Rattle.adpcm_nums.specs.Outcome.{Tells}
 use Rattle.host_files.specs.Outside.{World, Files, grown, raised}
 use Rattle.host_files.specs.declared.named_file.NamedFile.{NamedFile}
 use Rattle.manifest_reader.specs.Meaning.{Content}
-use Rattle.command_plan.specs.declared.status.Status.{Status}
-use Rattle.command_plan.specs.declared.status.Status.TheVariants.{Done, Memory}
+use Rattle.command_faults.specs.declared.status.Status.{Status}
+use Rattle.command_faults.specs.declared.status.Status.TheVariants.{Done, Memory}
 use Rattle.command_plan.specs.Ending.{is_device}
 use Rattle.command_plan.specs.Plan.{all_stored}
 use Rattle.tool_files.specs.declared.source.Source.{Source}
@@ -25,8 +25,9 @@ pub record HasCompiled (held : Files) (manifest : List ℕ) (a b : World) : Type
   pub bank : IsBank content sources writes line
   pub files : b.files ≡ all_stored a.files writes
   pub said : b.said ≡ grown a.said line
-  -- so now the stored bank plays each source as the file of its first pass says, the told errors are exact, and the stored certificates show the told bounds
-  pub kept : (after : Files) → b.files ≡ Some after → AllStored content.kind content.block content.bank sources bank.outs after
+  -- so now the stored bank plays each source as the file of its first pass says, the told errors are exact, and the stored certificates show the told bounds;
+  -- each told error is at most the sum of the beams' errors, and the bound where every segment was searched state by state
+  pub kept : (after : Files) → b.files ≡ Some after → AllStored content sources bank.outs after
   -- the manifest and each source were fetched, each of the bank's files stored, and one line said
   pub calls : b.calls ≡ raised (1 + length content.samples + length (bank_names content) + 1) a.calls
 

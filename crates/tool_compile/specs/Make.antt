@@ -5,7 +5,6 @@ use Rattle.host_files.specs.Outside.{World, grown, raised}
 use Rattle.host_files.specs.declared.named_file.NamedFile.{NamedFile}
 use Rattle.machine_core.specs.declared.state.Kind.{Kind}
 use Rattle.machine_core.specs.declared.state.Kind.TheVariants.{Brr, Spu, Ima}
-use Rattle.machine_core.specs.Blocks.{Blocks}
 use Rattle.loop_fit.specs.declared.rule.FitRule.{FitRule}
 use Rattle.loop_fit.specs.declared.rule.Length.TheVariants.{Unroll}
 use Rattle.loop_fit.specs.declared.rule.Start.TheVariants.{Front}
@@ -16,13 +15,13 @@ use Rattle.report_text.specs.declared.report.LoopShown.{LoopShown}
 use Rattle.report_text.specs.declared.report.LoopShown.TheVariants.{Block, Frames}
 use Rattle.report_text.specs.declared.report.SampleReport.{SampleReport}
 use Rattle.bank_kinds.specs.Kinds.{codec_for}
-use Rattle.bank_kinds.specs.Fits.{error_of}
 use Rattle.bank_kinds.specs.Bound.{IsBound}
 use Rattle.bank_compile.specs.declared.sample.SampleOut.{SampleOut}
-use Rattle.bank_compile.specs.Sample.{Effort, IsCompiled}
+use Rattle.manifest_reader.specs.declared.effort.Effort.{Effort}
+use Rattle.bank_compile.specs.Sample.{IsCompiled, IsReached}
 use Rattle.bank_compile.specs.Told.{report_text}
-use Rattle.command_plan.specs.declared.status.Status.{Status}
-use Rattle.command_plan.specs.declared.status.Status.TheVariants.{Done, Memory}
+use Rattle.command_faults.specs.declared.status.Status.{Status}
+use Rattle.command_faults.specs.declared.status.Status.TheVariants.{Done, Memory}
 use Rattle.command_plan.specs.Ending.{is_device}
 use Rattle.command_plan.specs.Read.{as_reading, written_under}
 use Rattle.command_plan.specs.Reading.{Reading}
@@ -33,7 +32,7 @@ made_rule kind = record { kind = kind; block = (codec_for kind 256).rules.decode
 
 -- how it is searched
 abbrev pub made_effort : Effort
-made_effort = record { width = 4; budget = 20000 }
+made_effort = record { beam = 4; paths = 1; budget = 20000 }
 
 -- how many blocks that takes, whatever the number
 abbrev pub made_blocks : Kind → ℕ
@@ -52,7 +51,8 @@ pub record IsMadeIn (number : ℕ) (kind : Kind) (name : List ℕ) (out : Sample
   pub fitted : Fitted
   pub fits : fit_of (frames_of number) (Some second_half) (made_rule kind) ≡ Ok fitted
   pub compiled : IsCompiled (codec_for kind 256) made_effort name 32000 fitted out
-  -- no list of blocks that may be stored has an error below the told bound
+  -- a list of blocks that may be stored has just the told error, and none has an error below the told bound
+  pub reached : IsReached (codec_for kind 256) fitted out.report.error
   pub bound : IsBound (codec_for kind 256) fitted out.report.bound
   pub gap : out.report.bound ≤ out.report.error
 
@@ -82,9 +82,8 @@ pub record IsToldIn (number : ℕ) (kind : Kind) (name : List ℕ) (report : Sam
   pub named : report.name ≡ name
   pub blocks : report.blocks ≡ made_blocks kind
   pub shown : report.shown ≡ made_shown kind
-  -- the told error is the exact one of the list that was chosen
-  pub list : Blocks
-  pub error : report.error ≡ error_of (codec_for kind 256) fitted list
+  -- the told error is just that of a list of blocks that may be stored
+  pub reached : IsReached (codec_for kind 256) fitted report.error
   -- no list of blocks that may be stored has an error below the told bound
   pub bound : IsBound (codec_for kind 256) fitted report.bound
   pub gap : report.bound ≤ report.error

@@ -11,7 +11,8 @@ ghost use Rattle.command_plan.specs.Steps.{Keeps};
 
 use crate::form_bank::form_bank;
 use adpcm_nums::NoMemory;
-use command_plan::{Status, finish, write_out};
+use command_faults::Status;
+use command_plan::{finish, write_out};
 use host_files::Host;
 use manifest_reader::Manifest;
 use std::alloc::Global;
@@ -25,8 +26,9 @@ pub fn run_compile<H: Host>(alloc: Global, host: &mut H, manifest: &str) -> Stat
     // How the world stands, whatever the host did.
     ensures told { (files : Files) → (H.world host.old).files ≡ Some files →
         Promises (compile_course files manifest.now) (MayStore files manifest.now) (H.world host.old) (H.world host.new) result }
-    // In the command's own words: at `Done` the bank plays, the told errors are exact, and the stored certificates show the told bounds; where the
-    // host does not fail, the manifest, the sources and their room decide how it ends.
+    // In the command's own words: at `Done` the bank plays, the told errors are exact, and the stored certificates show the told bounds; a told error is
+    // at most the sum of the beams' errors, and the bound where every segment was searched state by state. Where the host does not fail, the manifest,
+    // the sources and their room decide how it ends.
     ensures answer { (files : Files) → (H.world host.old).files ≡ Some files →
         AnswersCompile files manifest.now (H.world host.old) (H.world host.new) result }
     // These hold of a host that tells nothing, too.

@@ -7,7 +7,7 @@ ghost use Rattle.ima_machine.specs.Ima.{is_align};
 ghost use Rattle.bank_kinds.specs.Kinds.{codec_for};
 ghost use Rattle.bank_compile.specs.Bank.{IsOut};
 ghost use Rattle.tool_files.specs.declared.source.Source.{Source};
-ghost use Rattle.tool_compile.specs.Compile.{effort_of, IsMadeOf, IsBank};
+ghost use Rattle.tool_compile.specs.Compile.{IsMadeOf, IsBank};
 ghost use Rattle.tool_files.specs.Ready.{IsReady};
 
 use adpcm_nums::{NoMemory, Text};
@@ -23,8 +23,9 @@ use tool_files::Source;
 fn compile_source(alloc: Global, manifest: &Manifest, source: Source) -> Result<SampleOut, NoMemory>
     requires block { IsTrue (is_align manifest.now.block) }
     requires beam { IsWithin 1 64 1 manifest.now.beam }
+    requires paths { IsWithin 1 64 1 manifest.now.paths }
     requires ready { IsReady manifest.now.kind manifest.now.block source }
-    ensures made { IfOk result (IsMadeOf manifest.now.kind manifest.now.block (effort_of (content_of manifest.now)) source) }
+    ensures made { IfOk result (IsMadeOf (content_of manifest.now) source) }
     ensures out { IfOk result (IsOut (codec_for manifest.now.kind manifest.now.block)) }
     ensures bound { IfOk result (λ out. out.report.bound ≤ out.report.error) }
 {
@@ -40,9 +41,10 @@ fn compile_all(
 ) -> Result<Vec<SampleOut>, NoMemory>
     requires block { IsTrue (is_align manifest.now.block) }
     requires beam { IsWithin 1 64 1 manifest.now.beam }
+    requires paths { IsWithin 1 64 1 manifest.now.paths }
     requires ready { All (IsReady manifest.now.kind manifest.now.block) sources.items }
     ensures count { IfOk result (λ outs. length outs.items ≡ length sources.items) }
-    ensures made { IfOk result (λ outs. AllZip (IsMadeOf manifest.now.kind manifest.now.block (effort_of (content_of manifest.now))) sources.items outs.items) }
+    ensures made { IfOk result (λ outs. AllZip (IsMadeOf (content_of manifest.now)) sources.items outs.items) }
     ensures outs { IfOk result (λ outs. All (IsOut (codec_for manifest.now.kind manifest.now.block)) outs.items) }
     ensures bounds { IfOk result (λ outs. All (λ out. out.report.bound ≤ out.report.error) outs.items) }
 {
@@ -71,6 +73,7 @@ pub(crate) fn form_bank(
     requires ready { All (IsReady manifest.now.kind manifest.now.block) sources.items }
     requires block { IsTrue (is_align manifest.now.block) }
     requires beam { IsWithin 1 64 1 manifest.now.beam }
+    requires paths { IsWithin 1 64 1 manifest.now.paths }
     requires named { map (λ (s : Source). s.name) sources.items ≡ map (λ (e : SampleEntry). e.name) manifest.now.samples.items }
     requires once { StoresOnce manifest.now.kind manifest.now.bank manifest.now.samples.items }
     ensures { IfOk result (λ r. IsBank (content_of manifest.now) sources.items r.0.items r.1) }

@@ -4,7 +4,8 @@ ghost use Rattle.command_plan.specs.Steps.{Keeps};
 
 use crate::made::made_report;
 use adpcm_nums::NoMemory;
-use command_plan::{Status, finish, write_out};
+use command_faults::Status;
+use command_plan::{finish, write_out};
 use host_files::Host;
 use std::alloc::Global;
 
@@ -16,7 +17,7 @@ use std::alloc::Global;
 pub fn run_make<H: Host>(alloc: Global, host: &mut H, number: u32) -> Status
     // How the world stands, whatever the host did.
     ensures told { Promises make_course (IsMade number) (H.world host.old) (H.world host.new) result }
-    // In the command's own words: the told errors are exact, and the told bounds hold.
+    // In the command's own words: each told error is just that of a list of blocks that may be stored, and no such list has an error below the told bound.
     ensures answer { AnswersMake number (H.world host.old) (H.world host.new) result }
     // These hold of a host that tells nothing, too.
     ensures keeps { Keeps (H.world host.old) (H.world host.new) result }

@@ -8,10 +8,10 @@ use Rattle.decompile_core.specs.declared.fault.DecompileFault.{DecompileFault}
 use Rattle.decompile_core.specs.declared.fault.DecompileFault.TheVariants.{Image, Vag, Ima as WaveFault, Track, TooMuch, NoMemory}
 use Rattle.decompile_core.specs.declared.recovered.Recovered.{Recovered}
 use Rattle.decompile_core.specs.Decompiled.{decompiled}
-use Rattle.command_plan.specs.declared.status.Status.{Status}
-use Rattle.command_plan.specs.declared.status.Status.TheVariants.{Words, Input, Memory}
-use Rattle.command_plan.specs.declared.input_fault.InputFault.{InputFault}
-use Rattle.command_plan.specs.declared.input_fault.InputFault.TheVariants.{FileLong, TooMuch as OfMuch, Image as OfImage, Vag as OfVag, Ima as OfIma, Track as OfTrack}
+use Rattle.command_faults.specs.declared.status.Status.{Status}
+use Rattle.command_faults.specs.declared.status.Status.TheVariants.{Words, Input, Memory}
+use Rattle.command_faults.specs.declared.input_fault.InputFault.{InputFault}
+use Rattle.command_faults.specs.declared.input_fault.InputFault.TheVariants.{FileLong, TooMuch as OfMuch, Image as OfImage, Vag as OfVag, Ima as OfIma, Track as OfTrack}
 use Rattle.command_plan.specs.Ending.{is_device, ending_of}
 use Rattle.command_plan.specs.Plan.{names_in}
 use Rattle.command_plan.specs.Read.{as_reading, given, fetched_for, written_under, Reads}
@@ -22,7 +22,7 @@ use Rattle.command_plan.proofs.Readings.{reads_on}
 use Rattle.command_plan.proofs.ReadOn.{given_halts}
 use Rattle.command_plan.proofs.Tests.{decides}
 use Rattle.command_plan.proofs.Promised.{then_reaches, written}
-use Rattle.tool_play.specs.Play.{whole_in}
+use Rattle.tool_files.specs.Source.{whole_in}
 use Rattle.tool_decompile.specs.Decompile.{form_of, refusal_of, or_status, entries_from, entries_read, entries_in, entries_reading, decompile_course, IsDecompiled}
 use Rattle.tool_decompile.specs.EntryFiles.{entry_files}
 

@@ -12,9 +12,9 @@ use Rattle.decompile_core.specs.declared.fault.DecompileFault.{DecompileFault}
 use Rattle.decompile_core.specs.declared.recovered.Recovered.{Recovered}
 use Rattle.decompile_core.specs.Decompiled.{decompiled}
 use Rattle.decompile_core.specs.Heard.{IsHeard}
-use Rattle.command_plan.specs.declared.status.Status.{Status}
-use Rattle.command_plan.specs.declared.status.Status.TheVariants.{Input, Memory}
-use Rattle.command_plan.specs.declared.input_fault.InputFault.TheVariants.{FileLong}
+use Rattle.command_faults.specs.declared.status.Status.{Status}
+use Rattle.command_faults.specs.declared.status.Status.TheVariants.{Input, Memory}
+use Rattle.command_faults.specs.declared.input_fault.InputFault.TheVariants.{FileLong}
 use Rattle.command_plan.specs.Plan.{names_in, all_stored}
 use Rattle.command_plan.specs.Read.{written_under}
 use Rattle.command_plan.specs.Reading.{status_of}
@@ -23,7 +23,7 @@ use Rattle.command_plan.proofs.Kept.{kept_at}
 use Rattle.command_plan.proofs.ReadOn.{then-count, then-outcome, written-count}
 use Rattle.command_plan.proofs.Promised.{answers, done_is}
 use Rattle.tool_files.specs.Source.{front_in}
-use Rattle.tool_play.specs.Play.{whole_in}
+use Rattle.tool_files.specs.Source.{whole_in}
 use Rattle.tool_decompile.specs.Decompile.{form_of, or_status, entries_from, entries_read, entries_in, decompile_course, IsDecompiled, HasDecompiled, AnswersDecompile}
 use Rattle.tool_decompile.specs.EntryFiles.{entry_file, entry_files, entry_name, IsKept}
 use Rattle.tool_decompile.proofs.FrontSteps.{front_set}

@@ -5,9 +5,9 @@ use Rattle.std.proofs.lemmas.List.{take_all}
 use Rattle.host_files.specs.Outside.{World, Files}
 use Rattle.host_files.specs.declared.named_file.NamedFile.{NamedFile}
 use Rattle.decompile_core.specs.declared.recovered.Recovered.{Recovered}
-use Rattle.command_plan.specs.declared.status.Status.{Status}
-use Rattle.command_plan.specs.declared.status.HostCall.{HostCall}
-use Rattle.command_plan.specs.declared.status.HostCall.TheVariants.{Fetch, Store, Say}
+use Rattle.command_faults.specs.declared.status.Status.{Status}
+use Rattle.command_faults.specs.declared.status.HostCall.{HostCall}
+use Rattle.command_faults.specs.declared.status.HostCall.TheVariants.{Fetch, Store, Say}
 use Rattle.command_plan.specs.Ending.{Ending, Finished, Declined, Broken, Starved, ending_of}
 use Rattle.command_plan.specs.Plan.{Plan, FollowsTo, LeftAt, PartlySet, all_stored, names_in}
 use Rattle.command_plan.specs.Promise.{Promises}

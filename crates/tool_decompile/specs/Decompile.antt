@@ -12,15 +12,15 @@ use Rattle.decompile_core.specs.declared.fault.DecompileFault.TheVariants.{Image
 use Rattle.decompile_core.specs.declared.recovered.Recovered.{Recovered}
 use Rattle.decompile_core.specs.Decompiled.{decompiled}
 use Rattle.decompile_core.specs.Heard.{IsHeard}
-use Rattle.command_plan.specs.declared.status.Status.{Status}
-use Rattle.command_plan.specs.declared.status.Status.TheVariants.{Done, Input, Memory}
-use Rattle.command_plan.specs.declared.input_fault.InputFault.TheVariants.{TooMuch as OfMuch, Image as OfImage, Vag as OfVag, Ima as OfIma, Track as OfTrack}
+use Rattle.command_faults.specs.declared.status.Status.{Status}
+use Rattle.command_faults.specs.declared.status.Status.TheVariants.{Done, Input, Memory}
+use Rattle.command_faults.specs.declared.input_fault.InputFault.TheVariants.{TooMuch as OfMuch, Image as OfImage, Vag as OfVag, Ima as OfIma, Track as OfTrack}
 use Rattle.command_plan.specs.Ending.{is_device}
 use Rattle.command_plan.specs.Plan.{names_in, all_stored, PartlySet}
 use Rattle.command_plan.specs.Read.{Read, as_reading, fetched_for, read_on, written_under}
 use Rattle.command_plan.specs.Reading.{Reading, status_of}
 use Rattle.tool_files.specs.Source.{front_in}
-use Rattle.tool_play.specs.Play.{whole_in}
+use Rattle.tool_files.specs.Source.{whole_in}
 use Rattle.tool_decompile.specs.EntryFiles.{entry_files, entry_name, wave_of, AreKept, ReadsAs}
 use Rattle.tool_decompile.specs.EntryLines.{entry_lines}
 

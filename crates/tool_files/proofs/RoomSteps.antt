@@ -8,8 +8,8 @@ use Rattle.loop_fit.specs.declared.rule.FitRule.{FitRule}
 use Rattle.manifest_reader.specs.declared.manifest.SampleEntry.{SampleEntry}
 use Rattle.manifest_reader.specs.Meaning.{Content}
 use Rattle.snes_directory.specs.Layout.{is_past_end}
-use Rattle.command_plan.specs.declared.status.Status.{Status}
-use Rattle.command_plan.specs.declared.status.Status.TheVariants.{Full, Memory}
+use Rattle.command_faults.specs.declared.status.Status.{Status}
+use Rattle.command_faults.specs.declared.status.Status.TheVariants.{Full, Memory}
 use Rattle.command_plan.specs.Read.{Read, as_reading, given, Reads}
 use Rattle.command_plan.specs.Reading.{Declines}
 use Rattle.command_plan.specs.Steps.{HasRead, Halts}

@@ -22,9 +22,9 @@ use Rattle.bank_kinds.specs.Kinds.{codec_for}
 use Rattle.wave_form.specs.declared.wave.Wave.{Wave}
 use Rattle.wave_form.specs.Reading.{read_of}
 use Rattle.smpl_loops.specs.Loops.{first_loop_of}
-use Rattle.command_plan.specs.declared.status.Status.{Status}
-use Rattle.command_plan.specs.declared.status.Status.TheVariants.{Manifest, Input, Unfit}
-use Rattle.command_plan.specs.declared.input_fault.InputFault.TheVariants.{Wave as WaveInput, Loop, FileLong}
+use Rattle.command_faults.specs.declared.status.Status.{Status}
+use Rattle.command_faults.specs.declared.status.Status.TheVariants.{Manifest, Input, Unfit}
+use Rattle.command_faults.specs.declared.input_fault.InputFault.TheVariants.{Wave as WaveInput, Loop, FileLong}
 use Rattle.command_plan.specs.Ending.{Declined, ending_of}
 use Rattle.command_plan.specs.Reading.{Declines}
 use Rattle.command_plan.proofs.Fronts.{take-next}

@@ -12,14 +12,18 @@ use Rattle.loop_fit.specs.declared.rule.FitRule.{FitRule}
 use Rattle.loop_fit.specs.declared.fitted.Fitted.{Fitted}
 use Rattle.loop_fit.specs.Fit.{fit_of}
 use Rattle.bank_kinds.specs.Kinds.{codec_for}
-use Rattle.command_plan.specs.declared.status.Status.{Status}
-use Rattle.command_plan.specs.declared.status.Status.TheVariants.{Manifest, Input, Unfit}
-use Rattle.command_plan.specs.declared.input_fault.InputFault.TheVariants.{Wave as WaveInput, Loop, FileLong}
+use Rattle.command_faults.specs.declared.status.Status.{Status}
+use Rattle.command_faults.specs.declared.status.Status.TheVariants.{Manifest, Input, Unfit}
+use Rattle.command_faults.specs.declared.input_fault.InputFault.TheVariants.{Wave as WaveInput, Loop, FileLong}
 use Rattle.tool_files.specs.declared.source.Source.{Source}
 
 -- the bytes of a file that are fetched where it may have so many: one more shows that it is longer
 unfoldable pub front_in : Files → List ℕ → ℕ → List ℕ
 front_in files name most = take (most + 1) (content_of files name)
+
+-- a file that may have 8,388,608 bytes
+unfoldable pub whole_in : List ℕ → List ℕ → Result (List ℕ) Status
+whole_in file front = if nat_lt 8388608 (length front) then Err (Input file (FileLong 8388608)) else Ok front
 
 -- a reading with its fault told as a status
 abbrev pub or_told : {X E : Type 0} → (E → Status) → Result X E → Result X Status

@@ -8,8 +8,8 @@ use Rattle.loop_fit.specs.declared.rule.FitRule.{FitRule}
 use Rattle.manifest_reader.specs.declared.manifest.SampleEntry.{SampleEntry}
 use Rattle.manifest_reader.specs.Meaning.{Content}
 use Rattle.snes_directory.specs.Layout.{end_address, is_past_end}
-use Rattle.command_plan.specs.declared.status.Status.{Status}
-use Rattle.command_plan.specs.declared.status.Status.TheVariants.{Full}
+use Rattle.command_faults.specs.declared.status.Status.{Status}
+use Rattle.command_faults.specs.declared.status.Status.TheVariants.{Full}
 use Rattle.command_plan.specs.Read.{Read, given, fetched_for, ◌>>=◌, read_all}
 use Rattle.tool_files.specs.declared.source.Source.{Source}
 use Rattle.tool_files.specs.Source.{front_in, manifest_in, rule_of, source_of}

@@ -15,7 +15,7 @@ ghost use Rattle.command_plan.specs.Reading.{status_of};
 use crate::fetch_source::fetch_each;
 use crate::source::Source;
 use bank_kinds::samples_in_block;
-use command_plan::{Status, full};
+use command_faults::{Status, full};
 use host_files::Host;
 use loop_fit::FitRule;
 use machine_core::Kind;

@@ -12,7 +12,8 @@ ghost use Rattle.tool_files.specs.Ready.{IsReadyBy};
 
 use crate::read_source::read_source;
 use crate::source::Source;
-use command_plan::{Status, fetch_front};
+use command_faults::Status;
+use command_plan::fetch_front;
 use host_files::Host;
 use loop_fit::FitRule;
 use manifest_reader::SampleEntry;

@@ -5,17 +5,12 @@
 
 mod fetch_bank;
 mod fetch_source;
-mod fetch_stored;
-mod images;
 mod manifests;
 mod read_source;
-mod said;
 mod source;
-mod stored_status;
+mod whole;
 
 pub use fetch_bank::fetch_sources;
-pub use fetch_stored::fetch_error;
-pub use images::fetch_image;
 pub use manifests::fetch_manifest;
-pub use said::say_report;
 pub use source::Source;
+pub use whole::whole_in;

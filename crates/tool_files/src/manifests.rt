@@ -9,7 +9,8 @@ ghost use Rattle.command_plan.specs.Steps.{Keeps, IsPlain};
 ghost use Rattle.tool_files.specs.Source.{manifest_in};
 ghost use Rattle.tool_files.specs.Sources.{manifest_read};
 
-use command_plan::{Status, fetch_front};
+use command_faults::Status;
+use command_plan::fetch_front;
 use host_files::Host;
 use manifest_reader::{Manifest, ManifestFault, read_manifest};
 use std::alloc::Global;

@@ -13,7 +13,7 @@ ghost use Rattle.command_plan.specs.Reading.{status_of};
 use crate::source::Source;
 use adpcm_nums::{LoopAt, Text};
 use bank_kinds::fit_is_ready;
-use command_plan::{InputFault, Status, input_refused, unfit};
+use command_faults::{InputFault, Status, input_refused, unfit};
 use loop_fit::{FitFault, FitRule, Fitted, fit};
 use manifest_reader::SampleEntry;
 use smpl_loops::first_loop;

@@ -27,10 +27,10 @@ use Rattle.vag_writer.specs.Reading.{vag_of}
 use Rattle.snes_directory.specs.declared.image.Image.{Image}
 use Rattle.snes_directory.specs.Reading.{image_of}
 use Rattle.snes_directory.specs.EntryTracks.{is_long, track_at}
-use Rattle.command_plan.specs.declared.status.Status.{Status}
-use Rattle.command_plan.specs.declared.status.Status.TheVariants.{Done, Words, Input, Memory}
-use Rattle.command_plan.specs.declared.input_fault.InputFault.{InputFault}
-use Rattle.command_plan.specs.declared.input_fault.InputFault.TheVariants.{FileLong, NoEntry, TooMuch, Image as OfImage, Vag as OfVag, Ima as OfIma, Track as OfTrack}
+use Rattle.command_faults.specs.declared.status.Status.{Status}
+use Rattle.command_faults.specs.declared.status.Status.TheVariants.{Done, Words, Input, Memory}
+use Rattle.command_faults.specs.declared.input_fault.InputFault.{InputFault}
+use Rattle.command_faults.specs.declared.input_fault.InputFault.TheVariants.{FileLong, NoEntry, TooMuch, Image as OfImage, Vag as OfVag, Ima as OfIma, Track as OfTrack}
 use Rattle.command_plan.specs.Ending.{is_device, ending_of}
 use Rattle.command_plan.specs.Plan.{Plan, all_stored}
 use Rattle.command_plan.specs.Read.{Read, as_reading, nothing, written_under}
@@ -40,8 +40,9 @@ use Rattle.command_plan.specs.Promise.{IsPlanOf, Reaches, Promises, Finishes}
 use Rattle.command_plan.proofs.ReadOn.{then-count, then-outcome}
 use Rattle.command_plan.proofs.Promised.{answers, done_is, then_reaches, unsaid, written}
 use Rattle.tool_files.specs.Source.{front_in}
-use Rattle.tool_play.specs.Play.{or_refused, whole_in, image_in, track_unless, track_in, vag_in, only_track, vag_track_in, ima_in, only_sound, ima_track_in, output_line, play_lines, image_said, vag_said, ima_said, said_by, said_of}
+use Rattle.tool_play.specs.Play.{or_refused, image_in, track_unless, track_in, vag_in, only_track, vag_track_in, ima_in, only_sound, ima_track_in, output_line, play_lines, image_said, vag_said, ima_said, said_by, said_of}
 use Rattle.tool_play.specs.Played.{said_read, saying, play_course, IsPlayed, HasPlayed, AnswersPlay}
+use Rattle.tool_files.specs.Source.{whole_in}
 use Rattle.tool_files.proofs.Unwritten.{unwritten_files}
 
 whole-of : (len align : ℕ) → len % align ≡ 0 → len ≡ len / align * align

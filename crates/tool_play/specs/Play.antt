@@ -23,14 +23,11 @@ use Rattle.vag_writer.specs.Reading.{vag_of}
 use Rattle.snes_directory.specs.declared.image.Image.{Image}
 use Rattle.snes_directory.specs.Reading.{image_of}
 use Rattle.snes_directory.specs.EntryTracks.{blocks_in, is_long, track_at}
-use Rattle.command_plan.specs.declared.status.Status.{Status}
-use Rattle.command_plan.specs.declared.status.Status.TheVariants.{Input}
-use Rattle.command_plan.specs.declared.input_fault.InputFault.{InputFault}
-use Rattle.command_plan.specs.declared.input_fault.InputFault.TheVariants.{FileLong, NoEntry, TooMuch, Image as OfImage, Vag as OfVag, Ima as OfIma, Track as OfTrack}
-
--- a file that may have 8,388,608 bytes
-unfoldable pub whole_in : List ℕ → List ℕ → Result (List ℕ) Status
-whole_in file front = if nat_lt 8388608 (length front) then Err (Input file (FileLong 8388608)) else Ok front
+use Rattle.command_faults.specs.declared.status.Status.{Status}
+use Rattle.command_faults.specs.declared.status.Status.TheVariants.{Input}
+use Rattle.command_faults.specs.declared.input_fault.InputFault.{InputFault}
+use Rattle.command_faults.specs.declared.input_fault.InputFault.TheVariants.{NoEntry, TooMuch, Image as OfImage, Vag as OfVag, Ima as OfIma, Track as OfTrack}
+use Rattle.tool_files.specs.Source.{whole_in}
 
 -- what was read of a file, or its fault under the file's name
 abbrev pub or_refused : {X E : Type 0} → List ℕ → (E → InputFault) → Result X E → Result X Status

@@ -4,8 +4,8 @@ use Rattle.adpcm_nums.specs.Outcome.{Tells}
 use Rattle.host_files.specs.Outside.{World, Files, grown, raised}
 use Rattle.host_files.specs.declared.named_file.NamedFile.{NamedFile}
 use Rattle.machine_core.specs.declared.state.Kind.{Kind}
-use Rattle.command_plan.specs.declared.status.Status.{Status}
-use Rattle.command_plan.specs.declared.status.Status.TheVariants.{Done, Memory}
+use Rattle.command_faults.specs.declared.status.Status.{Status}
+use Rattle.command_faults.specs.declared.status.Status.TheVariants.{Done, Memory}
 use Rattle.command_plan.specs.Ending.{is_device}
 use Rattle.command_plan.specs.Read.{Read, as_reading, nothing, fetched_for, ◌>>=◌, written_under}
 use Rattle.command_plan.specs.Reading.{Reading, status_of}

@@ -5,7 +5,7 @@ ghost use Rattle.ima_wave.specs.Files.{IsImaFile};
 ghost use Rattle.tool_play.specs.Play.{play_lines, ima_in, ima_said, ima_track_in};
 
 use adpcm_nums::{NoMemory, Text};
-use command_plan::{InputFault, Status, input_refused};
+use command_faults::{InputFault, Status, input_refused};
 use ima_machine::Ima;
 use ima_wave::{ImaFile, ImaWaveFault, read_ima};
 use machine_core::Machine;

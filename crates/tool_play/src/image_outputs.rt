@@ -5,7 +5,7 @@ ghost use Rattle.tool_play.specs.Play.{image_in, image_said, track_in};
 
 use crate::outputs::play_lines;
 use adpcm_nums::{NoMemory, Text};
-use command_plan::{InputFault, Status, input_refused};
+use command_faults::{InputFault, Status, input_refused};
 use player_model::BrrTrack;
 use snes_directory::{Image, ImageFault, read_image};
 use std::alloc::Global;

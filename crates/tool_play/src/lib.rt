@@ -8,5 +8,4 @@ mod outputs;
 mod play;
 mod vag_outputs;
 
-pub use outputs::whole_in;
 pub use play::run_play;

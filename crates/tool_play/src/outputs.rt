@@ -1,16 +1,17 @@
 ghost use Rattle.std.specs.Prelude.{◌≡◌, ◌^◌, ◌<◌, ◌≤◌, length, IfOk};
 ghost use Rattle.adpcm_nums.specs.Outcome.{Gives};
 ghost use Rattle.player_model.specs.Sound.{heard};
-ghost use Rattle.tool_play.specs.Play.{play_lines, said_of, whole_in};
+ghost use Rattle.tool_play.specs.Play.{play_lines, said_of};
 
 use crate::ima_outputs::ima_said;
 use crate::image_outputs::image_said;
 use crate::vag_outputs::vag_said;
 use adpcm_nums::{NoMemory, Text};
-use command_plan::{InputFault, Status, input_refused};
+use command_faults::Status;
 use machine_core::Kind;
 use player_model::{StoredFormat, StoredPlayer, StoredTrack};
 use std::alloc::Global;
+use tool_files::whole_in;
 
 /// The first outputs of a track, one in a line.
 #[tactic(auto, unfolding(crate::specs::Play::play_lines))]
@@ -30,19 +31,6 @@ pub(crate) fn play_lines<F: StoredFormat>(
         }
     }
     Ok(Text::from_string(lines))
-}
-
-/// The front of a file that may have 8,388,608 bytes.
-#[tactic(auto, unfolding(crate::specs::Play::whole_in))]
-pub fn whole_in<'b>(alloc: Global, file: &str, front: &'b [u8]) -> Result<&'b [u8], Status>
-    ensures exact { Gives Status.Memory (λ bytes. bytes.now) result (whole_in file.now front.now) }
-    ensures few { IfOk result (λ bytes. length bytes.now ≤ 8388608) }
-{
-    if front.len() > 8_388_608 {
-        let most = 8_388_608;
-        return Err(input_refused(alloc, file, InputFault::FileLong { most }));
-    }
-    Ok(front)
 }
 
 /// The first outputs of an entry of the file that a front is, one in a line.

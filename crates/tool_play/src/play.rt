@@ -8,7 +8,8 @@ ghost use Rattle.command_plan.specs.Reading.{status_of};
 
 use crate::outputs::said_of;
 use adpcm_nums::Text;
-use command_plan::{Status, fetch_front, finish, write_out};
+use command_faults::Status;
+use command_plan::{fetch_front, finish, write_out};
 use host_files::Host;
 use machine_core::Kind;
 use std::alloc::Global;

@@ -4,7 +4,7 @@ ghost use Rattle.tool_play.specs.Play.{vag_in, vag_said, vag_track_in};
 
 use crate::outputs::play_lines;
 use adpcm_nums::{NoMemory, Text};
-use command_plan::{InputFault, Status, input_refused};
+use command_faults::{InputFault, Status, input_refused};
 use player_model::{SpuTrack, spu_track};
 use std::alloc::Global;
 use vag_writer::{Vag, VagFault, read_vag};

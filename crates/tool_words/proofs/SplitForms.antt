@@ -84,37 +84,40 @@ block_answers (a ∷ b ∷ c ∷ []) = inr (refl, refl)
 block_answers (a ∷ b ∷ c ∷ d ∷ []) = inr (refl, refl)
 block_answers (a ∷ b ∷ c ∷ d ∷ e ∷ rest) = inr (refl, refl)
 
-abbrev compile_places : List Text
-compile_places = codes "MANIFEST" ∷ []
+-- the commands of the one word MANIFEST: behind the name of one, no other number of words is a command
+abbrev manifest_places : List Text
+manifest_places = codes "MANIFEST" ∷ []
 
-compile_goes : Goes (codes "compile") compile_places
+record IsAlone (name : Text) : Type 0 where
+  two : (a b : Text) → command_in (name ∷ a ∷ b ∷ []) ≡ None
+  three : (a b c : Text) → command_in (name ∷ a ∷ b ∷ c ∷ []) ≡ None
+  four : (a b c d : Text) → command_in (name ∷ a ∷ b ∷ c ∷ d ∷ []) ≡ None
+
+manifest_answers : (name : Text) → IsAlone name → ((a : Text) → command_met (Some (name, leaf_rows (leaf name manifest_places) (a ∷ []))) ≡ command_in (name ∷ a ∷ []))
+    → (rest : List Text) → Answers name manifest_places rest
 unfolding clap_on_literals
-compile_goes = goes (codes "compile") compile_places refl refl refl refl
+manifest_answers name alone met [] = inr (refl, refl)
+manifest_answers name alone met (a ∷ []) = inl (refl, met a)
+manifest_answers name alone met (a ∷ b ∷ []) = inr (refl, alone.two a b)
+manifest_answers name alone met (a ∷ b ∷ c ∷ []) = inr (refl, alone.three a b c)
+manifest_answers name alone met (a ∷ b ∷ c ∷ d ∷ []) = inr (refl, alone.four a b c d)
+manifest_answers name alone met (a ∷ b ∷ c ∷ d ∷ e ∷ rest) = inr (refl, refl)
 
-compile_answers : (rest : List Text) → Answers (codes "compile") compile_places rest
+compile_goes : Goes (codes "compile") manifest_places
+unfolding clap_on_literals
+compile_goes = goes (codes "compile") manifest_places refl refl refl refl
+
+compile_answers : (rest : List Text) → Answers (codes "compile") manifest_places rest
 unfolding clap_on_literals compile_at
-compile_answers [] = inr (refl, refl)
-compile_answers (a ∷ []) = inl (refl, refl)
-compile_answers (a ∷ b ∷ []) = inr (refl, refl)
-compile_answers (a ∷ b ∷ c ∷ []) = inr (refl, refl)
-compile_answers (a ∷ b ∷ c ∷ d ∷ []) = inr (refl, refl)
-compile_answers (a ∷ b ∷ c ∷ d ∷ e ∷ rest) = inr (refl, refl)
+compile_answers = manifest_answers (codes "compile") (record { two = λ a b. refl; three = λ a b c. refl; four = λ a b c d. refl }) (λ a. refl)
 
-abbrev check_places : List Text
-check_places = codes "MANIFEST" ∷ []
-
-check_goes : Goes (codes "check") check_places
+check_goes : Goes (codes "check") manifest_places
 unfolding clap_on_literals
-check_goes = goes (codes "check") check_places refl refl refl refl
+check_goes = goes (codes "check") manifest_places refl refl refl refl
 
-check_answers : (rest : List Text) → Answers (codes "check") check_places rest
+check_answers : (rest : List Text) → Answers (codes "check") manifest_places rest
 unfolding clap_on_literals check_at
-check_answers [] = inr (refl, refl)
-check_answers (a ∷ []) = inl (refl, refl)
-check_answers (a ∷ b ∷ []) = inr (refl, refl)
-check_answers (a ∷ b ∷ c ∷ []) = inr (refl, refl)
-check_answers (a ∷ b ∷ c ∷ d ∷ []) = inr (refl, refl)
-check_answers (a ∷ b ∷ c ∷ d ∷ e ∷ rest) = inr (refl, refl)
+check_answers = manifest_answers (codes "check") (record { two = λ a b. refl; three = λ a b c. refl; four = λ a b c d. refl }) (λ a. refl)
 
 abbrev bound_places : List Text
 bound_places = codes "MANIFEST" ∷ codes "EFFORT" ∷ []
@@ -223,8 +226,8 @@ split_from : (name : Text) (rest : List Text) → is_word name ≡ true → list
     → (name ≡ codes "play") ⊎ Differ name (codes "play") → (name ≡ codes "make") ⊎ Differ name (codes "make")
     → Splits (name ∷ rest)
 split_from name rest stands stand (inl is) _ _ _ _ _ _ = renamed name _ rest is (splits_by _ block_places rest block_goes (block_answers rest) stand)
-split_from name rest stands stand (inr a) (inl is) _ _ _ _ _ = renamed name _ rest is (splits_by _ compile_places rest compile_goes (compile_answers rest) stand)
-split_from name rest stands stand (inr a) (inr b) (inl is) _ _ _ _ = renamed name _ rest is (splits_by _ check_places rest check_goes (check_answers rest) stand)
+split_from name rest stands stand (inr a) (inl is) _ _ _ _ _ = renamed name _ rest is (splits_by _ manifest_places rest compile_goes (compile_answers rest) stand)
+split_from name rest stands stand (inr a) (inr b) (inl is) _ _ _ _ = renamed name _ rest is (splits_by _ manifest_places rest check_goes (check_answers rest) stand)
 split_from name rest stands stand (inr a) (inr b) (inr c) (inl is) _ _ _ = renamed name _ rest is (splits_by _ bound_places rest bound_goes (bound_answers rest) stand)
 split_from name rest stands stand (inr a) (inr b) (inr c) (inr d) (inl is) _ _ = renamed name _ rest is (splits_by _ decompile_places rest decompile_goes (decompile_answers rest) stand)
 split_from name rest stands stand (inr a) (inr b) (inr c) (inr d) (inr e) (inl is) _ = renamed name _ rest is (splits_by _ play_places rest play_goes (play_answers rest) stand)

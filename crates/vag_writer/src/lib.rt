@@ -14,6 +14,3 @@ pub use laws::written_is_read;
 pub use reading::read_vag;
 pub use vag::Vag;
 pub use writing::write_vag;
-
-#[cfg(test)]
-mod tests;

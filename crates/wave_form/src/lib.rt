@@ -27,6 +27,3 @@ pub use riff::{put_chunk, put_chunk_head, put_riff_head, put_u16, put_u32};
 pub use span::Span64;
 pub use wave::Wave;
 pub use writing::{write_wave, write_wave_loop};
-
-#[cfg(test)]
-mod tests;

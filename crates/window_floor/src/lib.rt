@@ -27,6 +27,3 @@ pub use theorem::{
     three_products,
 };
 pub use window::Window;
-
-#[cfg(test)]
-mod tests;

@@ -4,7 +4,7 @@ use Rattle.std.specs.Bool.{⊤}
 use Rattle.machine_core.specs.Blocks.{must_forget}
 use Rattle.machine_core.specs.Sums.{sum_of}
 use Rattle.player_model.specs.Stored.{blocks_in}
-use Rattle.command_plan.specs.declared.input_fault.InputFault.{InputFault}
+use Rattle.command_faults.specs.declared.input_fault.InputFault.{InputFault}
 use Rattle.bank_check.specs.Errors.{error_in, where_shaped}
 use Rattle.bank_check.proofs.Shaped.{flagged-ok}
 use Rattle.bank_check.proofs.flagged.flagged_error.Goals as goal

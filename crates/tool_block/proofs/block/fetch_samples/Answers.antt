@@ -1,5 +1,5 @@
 use Rattle.std.proofs.lemmas.Result.{err_from_is_err_and}
-use Rattle.command_plan.specs.declared.input_fault.InputFault.TheVariants.{BlockLength}
+use Rattle.command_faults.specs.declared.input_fault.InputFault.TheVariants.{BlockLength}
 use Rattle.command_plan.specs.Read.{given, whole_read}
 use Rattle.command_plan.proofs.ReadOn.{first_halts}
 use Rattle.tool_block.specs.Block.{raw_in}

@@ -2,7 +2,7 @@ use Rattle.std.proofs.Common.{◌∙◌}
 use Rattle.manifest_reader.specs.Meaning.{content_of}
 use Rattle.command_plan.proofs.Promised.{first_ends, then_reaches}
 use Rattle.tool_files.specs.Sources.{manifest_read}
-use Rattle.tool_files.specs.Compared.{compared}
+use Rattle.tool_check.specs.Compared.{compared}
 use Rattle.tool_check.specs.Check.{bank_read}
 use Rattle.tool_check.specs.Checked.{MayTell}
 use Rattle.tool_check.proofs.check.come_check.Goals as goal

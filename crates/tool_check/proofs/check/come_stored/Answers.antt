@@ -4,7 +4,7 @@ use Rattle.report_text.specs.declared.report.SampleReport.{SampleReport}
 use Rattle.command_plan.proofs.Promised.{first_ends}
 use Rattle.tool_files.specs.declared.source.Source.{Source}
 use Rattle.tool_files.specs.Sources.{sources_read}
-use Rattle.tool_files.proofs.ComparedSteps.{stored_for, stored_refused, report_told}
+use Rattle.tool_check.proofs.ComparedSteps.{stored_for, stored_refused, report_told}
 use Rattle.tool_check.specs.Check.{bank_read, check_text}
 use Rattle.tool_check.specs.Checked.{IsCheck, MayTell}
 use Rattle.tool_check.proofs.check.come_stored.Goals as goal

@@ -7,7 +7,7 @@ use Rattle.bank_kinds.specs.Kinds.{codec_for}
 use Rattle.bank_kinds.specs.Certified.{IsCertified}
 use Rattle.command_plan.specs.Read.{as_reading, fetched_for}
 use Rattle.command_plan.specs.Reading.{fetched}
-use Rattle.command_plan.specs.declared.status.Status.TheVariants.{Memory}
+use Rattle.command_faults.specs.declared.status.Status.TheVariants.{Memory}
 use Rattle.command_plan.specs.Steps.{HasRead}
 use Rattle.command_plan.proofs.ReadOn.{fetched_reads}
 use Rattle.tool_check.specs.Check.{proven_in}

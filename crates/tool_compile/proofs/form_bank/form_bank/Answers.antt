@@ -47,14 +47,14 @@ returns c =
       once = once;
       told = c.in_ok-line.ensures ∙ (ap (λ (os : List SampleOut). report_text os c.len.result) c.as_slice-2.ensures.value ∙ ap (report_text outs) count);
       stored = λ before after set j source out s o.
-          let is = zip_at (IsMadeOf m.kind m.block (effort_of m)) sources outs j source out made s o in
+          let is = zip_at (IsMadeOf m) sources outs j source out made s o in
           let ready = all_at (IsReady m.kind m.block) sources j source c.requires.ready s in
           let laws = c.kinds_encode.ensures m.kind m.block c.requires.block in
           let held = files_held before after writes once set in
           let certified = c.stored_bank_replays.ensures.certified m.kind m.block (content_of after) m.bank m.base outs writes j out (effort_of m) source.name source.rate source.fitted
-          c.requires.block c.in_ok-outs.ensures.outs stored held o is in
-          stored_sample m.kind m.block (content_of after) m.bank j source out.report
+          c.requires.block c.in_ok-outs.ensures.outs stored held o is.compiled in
+          stored_sample m (content_of after) j source out is
           (c.stored_bank_replays.ensures.replays m.kind m.block (content_of after) m.bank m.base outs writes j out (effort_of m) source.name source.rate source.fitted
-          c.requires.block few c.in_ok-outs.ensures.outs stored held o is)
+          c.requires.block few c.in_ok-outs.ensures.outs stored held o is.compiled)
           certified (c.certified_bounds_hold.ensures (codec_for m.kind m.block) source.fitted (content_of after (cert_name_of m.bank source.name)) out.report.bound out.report.levels laws ready.fit certified);
     }

@@ -1,7 +1,7 @@
 use Rattle.std.proofs.Common.{◌≡◌, List, ℕ, ◌∙◌, subst}
 use Rattle.std.proofs.lemmas.Result.{err_from_is_err_and}
 use Rattle.adpcm_nums.specs.Outcome.{Gives}
-use Rattle.command_plan.specs.declared.status.Status.TheVariants.{Memory}
+use Rattle.command_faults.specs.declared.status.Status.TheVariants.{Memory}
 use Rattle.command_plan.proofs.ReadOn.{fetched_first}
 use Rattle.tool_files.specs.Source.{front_in}
 use Rattle.tool_decompile.specs.Decompile.{entries_from, entries_in}

@@ -1,7 +1,7 @@
 use Rattle.std.proofs.Common.{◌≡◌, ◌∙◌, ap, subst, List, ℕ}
 use Rattle.std.proofs.lemmas.Result.{err_from_is_err_and}
 use Rattle.adpcm_nums.specs.Outcome.{Gives}
-use Rattle.command_plan.specs.declared.status.Status.TheVariants.{Memory}
+use Rattle.command_faults.specs.declared.status.Status.TheVariants.{Memory}
 use Rattle.command_plan.specs.Read.{as_reading, fetched_for}
 use Rattle.command_plan.specs.Reading.{fetched}
 use Rattle.command_plan.specs.Steps.{HasRead, Halts}

@@ -1,7 +1,7 @@
 use Rattle.std.proofs.Common.{◌≡◌, ◌∙◌, subst, List, ℕ}
 use Rattle.adpcm_nums.specs.Outcome.{Gives}
 use Rattle.manifest_reader.specs.Meaning.{content_of}
-use Rattle.command_plan.specs.declared.status.Status.TheVariants.{Memory}
+use Rattle.command_faults.specs.declared.status.Status.TheVariants.{Memory}
 use Rattle.tool_files.specs.Source.{front_in, manifest_in}
 use Rattle.command_plan.proofs.ReadOn.{fetched_reads}
 use Rattle.tool_files.proofs.SourceSteps.{manifest-declines, is_front}

@@ -3,8 +3,8 @@ use Rattle.std.proofs.lemmas.Bool.{cond-true, cond-false, lt-ltb, le-ltb}
 use Rattle.adpcm_nums.specs.Outcome.{Tells}
 use Rattle.ima_machine.specs.Ima.{samples_in}
 use Rattle.player_model.specs.ImaTrack.{IsImaSound, blocks_of}
-use Rattle.command_plan.specs.declared.status.Status.TheVariants.{Input, Memory}
-use Rattle.command_plan.specs.declared.input_fault.InputFault.TheVariants.{TooMuch, NoEntry}
+use Rattle.command_faults.specs.declared.status.Status.TheVariants.{Input, Memory}
+use Rattle.command_faults.specs.declared.input_fault.InputFault.TheVariants.{TooMuch, NoEntry}
 use Rattle.player_model.specs.Limit.{is_much}
 use Rattle.tool_play.specs.Play.{ima_track_in}
 use Rattle.tool_play.proofs.PlaySteps.{is_sound, much_at, sound_found, told_refused}

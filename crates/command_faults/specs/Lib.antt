@@ -1,0 +1,4 @@
+pub mod Rows
+pub mod CertWords
+pub mod FaultWords
+pub mod Lines

@@ -1,6 +1,0 @@
-use Rattle.std.proofs.Common.{◌≡◌, length, ◌<◌}
-use Rattle.adpcm_nums.specs.Sample.{AreSamples}
-use Rattle.ima_machine.proofs.tests.machine.walk.Given as goal
-
-abbrev pub invariant-loop-i : goal.invariant-loop-i
-invariant-loop-i l = record { len : length l.out ≡ 505; small : l.state < 4294967296; range : AreSamples l.out }

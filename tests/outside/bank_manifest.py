@@ -103,13 +103,14 @@ def read(data, own):
     if len(data) > MOST_MANIFEST:
         raise Refused("TooLong", MOST_MANIFEST + 1)
     table = read_toml(data)
-    refuse_unknown(table, ("format", "bank", "base", "block", "beam", "budget", "length", "start", "sample"))
+    refuse_unknown(table, ("format", "bank", "base", "block", "beam", "paths", "budget", "length", "start", "sample"))
     manifest = {
         "format": read_key(table, "format", str, lambda word: word in ("brr", "spu", "ima")),
         "bank": read_key(table, "bank", str, lambda bank: re.fullmatch("[A-Za-z0-9][A-Za-z0-9_.-]{0,63}", bank)),
         "base": read_key(table, "base", int, lambda base: base in range(0, 65281, 256), 512),
         "block": read_key(table, "block", int, lambda block: block in range(8, 1025, 4), 256),
         "beam": read_key(table, "beam", int, lambda beam: beam in range(1, 65), 8),
+        "paths": read_key(table, "paths", int, lambda paths: paths in range(1, 65), 1),
         "budget": read_key(table, "budget", int, lambda budget: budget in range(1000001), 100000),
         "length": read_key(table, "length", str, lambda word: word in ("exact", "unroll"), "exact"),
         "start": read_key(table, "start", str, lambda word: word in ("front", "rotate"), "front"),

@@ -1,7 +1,7 @@
 #!/usr/bin/env python3
 """Beams over BRR: which blocks stay when only so many prefixes are kept, found in the plainest way.
 
-It shares nothing with the crates. What it prints stands in crates/beam_encoder/src/tests.rt. Prefixes are whole lists
+It shares nothing with the crates. What it prints stands in crates/search_tests/src/beams.rt. Prefixes are whole lists
 here, and each block's extensions are sorted at once.
 """
 

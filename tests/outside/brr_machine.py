@@ -1,7 +1,7 @@
 #!/usr/bin/env python3
 """Nearest codes of BRR, and floors under the error of BRR blocks, found by trying everything.
 
-It shares nothing with the crates. What it prints stands in crates/brr_machine/src/tests/machine.rt. The decoder's rules
+It shares nothing with the crates. What it prints stands in crates/decoder_tests/src/brr/boxes.rt. The decoder's rules
 are those of fullsnes, "BRR samples"; the windows of the floors are this project's own choice (docs/FORMATS.md).
 """
 

@@ -1,7 +1,7 @@
 #!/usr/bin/env python3
 """A table of the SNES's BRR blocks with the outputs that a plain decoder gives.
 
-It shares nothing with the crates. Its rows stand in crates/brr_machine/src/tests/table.rt; run it to print them again.
+It shares nothing with the crates. Its rows stand in crates/decoder_tests/src/brr/table.rt; run it to print them again.
 """
 
 from collections import Counter

@@ -1,7 +1,7 @@
 #!/usr/bin/env python3
 """Floors under the error of an IMA ADPCM block: the least sum of its pairs' floors over all lists of codes.
 
-It shares nothing with the crates. What it prints stands in crates/ima_machine/src/tests/machine.rt. The pairs are this
+It shares nothing with the crates. What it prints stands in crates/decoder_tests/src/ima/floors.rt. The pairs are this
 project's own choice (docs/FORMATS.md): places 0 and 1, 2 and 3, and so on; the last place has none.
 """
 

@@ -1,7 +1,7 @@
 #!/usr/bin/env python3
 """Nearest codes of IMA ADPCM, found by trying all sixteen.
 
-It shares nothing with the crates. What it prints stands in crates/ima_machine/src/tests/machine.rt.
+It shares nothing with the crates. What it prints stands in crates/decoder_tests/src/ima/boxes.rt.
 """
 
 import random

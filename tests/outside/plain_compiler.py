@@ -161,7 +161,7 @@ def form_bank(files, own):
     machine = machine_of(manifest)
     stored, bodies, report = {}, [], ""
     for sample in found:
-        segments = search_sample(machine, sample.targets, sample.loop_block, manifest["beam"], manifest["budget"])
+        segments = search_sample(machine, sample.targets, sample.loop_block, manifest["beam"], manifest["budget"], manifest["paths"])
         heads, symbols = (list(itertools.chain(*parts)) for parts in zip(*((part.heads, part.symbols) for part in segments)))
         body, outputs = form.spelled(heads, symbols, sample.loop_block)
         bodies.append(body)

@@ -1,4 +1,4 @@
-"""The choice of a sample's blocks and its certificate, plainly: a beam, and a search over cells of states.
+"""The choice of a sample's blocks and its certificate, plainly: a beam, the paths, and a search over cells of states.
 
 The rules are those of docs/FORMATS.md; nothing here is shared with the program. It works with plain dictionaries, and tries
 every head and symbol of every cell.
@@ -7,6 +7,8 @@ every head and symbol of every cell.
 import math
 import struct
 from typing import NamedTuple
+
+import plain_paths
 
 NO_LANE, NO_CELLS = 65535, 255
 
@@ -191,9 +193,9 @@ class Search:
         return heads, symbols
 
 
-def search(machine, targets, width, share):
+def search(machine, targets, width, share, paths=1):
     """What is found for a segment."""
-    heads, symbols, most = beam(machine, targets, width)
+    heads, symbols, most = plain_paths.paths(machine, targets, paths, beam(machine, targets, width))
     work = Search(machine, targets, most)
     floor = work.later[0]
     for level in (0, 4, 8) if len(work.blocks) <= 64 else ():
@@ -216,12 +218,12 @@ def segments(machine, count, loop_block):
     return [loop_block, count - loop_block] if loop_block else [count]
 
 
-def search_sample(machine, targets, loop_block, width, budget):
+def search_sample(machine, targets, loop_block, width, budget, paths=1):
     """What is found for each segment of a sample."""
     counts, at, found = segments(machine, len(targets) // machine.SIZE, loop_block), 0, []
     for count in counts:
         size = count * machine.SIZE
-        found.append(search(machine, targets[at : at + size], width, budget // len(counts)))
+        found.append(search(machine, targets[at : at + size], width, budget // len(counts), paths))
         at += size
     return found
 

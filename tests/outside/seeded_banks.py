@@ -177,6 +177,7 @@ def fitting_bank(number, form="brr", size=16, align=None):
         budget=rng.choice((0, 20, 150)) if align else rng.choice((0, 40, 300, 2000)),
         length=length,
         start=rng.choice((None, "front", "rotate")),
+        paths=rng.choice((None, None, 1, 2, 5)),
     )
     return Bank(f"{form} seed {number}", files, OWN, "sample ")
 
@@ -288,6 +289,9 @@ def refused_manifests():
     yield bad_key("WrongKind base", base=True)
     yield bad_key("OutOfRange block 10", block=10)
     yield bad_key("OutOfRange beam 0", beam=0)
+    yield bad_key("OutOfRange paths 65", paths=65, budget=-1)
+    yield bad_key("OutOfRange beam 65", beam=65, paths=0)
+    yield bad_key("WrongKind paths", paths="4")
     yield bad_key("OutOfRange budget 1000001", budget=1000001)
     yield bad_key("BadWord length", length="", start="")
     yield bad_key("BadWord start", start="Front")

@@ -1,7 +1,7 @@
 #!/usr/bin/env python3
 """Nearest codes of SPU-ADPCM, and floors under the error of one block, found by trying everything.
 
-It shares nothing with the crates. What it prints stands in crates/spu_machine/src/tests/machine.rt. The decoder's rules are
+It shares nothing with the crates. What it prints stands in crates/decoder_tests/src/spu/boxes.rt. The decoder's rules are
 those of PSX-SPX, "SPU ADPCM Samples"; the windows of the floors are this project's own choice (docs/FORMATS.md).
 """
 

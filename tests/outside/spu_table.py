@@ -1,7 +1,7 @@
 #!/usr/bin/env python3
 """A table of SPU-ADPCM blocks with the outputs that a plain decoder gives.
 
-It shares nothing with the crates. Its rows stand in crates/spu_machine/src/tests/table.rt; run it to print them again.
+It shares nothing with the crates. Its rows stand in crates/decoder_tests/src/spu/table.rt; run it to print them again.
 """
 
 from collections import Counter

@@ -73,7 +73,7 @@ class Install(unittest.TestCase):
     def test_words_of_the_manual(self):
         """The manual page has every key of a manifest and every status."""
         text = (ROOT / "adbank.1").read_text()
-        for key in ("format", "bank", "base", "length", "start", "block", "beam", "budget", "name", "file", "channel", "loop"):
+        for key in ("format", "bank", "base", "length", "start", "block", "beam", "paths", "budget", "name", "file", "channel", "loop"):
             self.assertIn(f"\n.It Ic {key}\n", text)
         statuses = text.split(".Sh EXIT STATUS")[1].split(".Sh")[0]
         self.assertEqual([line[4:] for line in statuses.splitlines() if line.startswith(".It ")], list("0123456789"))

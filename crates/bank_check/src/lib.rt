@@ -16,6 +16,3 @@ pub use certificate::check_certificate;
 pub use failure::{CertFailure, StoredFailure};
 pub use proven::Proven;
 pub use stored::{ima_error, image_error, read_bank, vag_error};
-
-#[cfg(test)]
-mod tests;

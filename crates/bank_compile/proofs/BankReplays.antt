@@ -24,7 +24,8 @@ use Rattle.bank_kinds.specs.Kinds.{codec_for, brr_codec}
 use Rattle.bank_kinds.specs.Laws.{is_codec_for}
 use Rattle.bank_kinds.specs.Certified.{IsCertified}
 use Rattle.bank_kinds.specs.Fits.{first_of, error_of}
-use Rattle.bank_compile.specs.Sample.{Effort, IsCompiled, list_in, out_of}
+use Rattle.manifest_reader.specs.declared.effort.Effort.{Effort}
+use Rattle.bank_compile.specs.Sample.{IsCompiled, list_in, out_of}
 use Rattle.bank_compile.specs.Bank.{IsOut, sound_file, sample_files, image_of, image_files, bank_of}
 use Rattle.bank_kinds.specs.Replay.{Entry, IsHeld, InImage, InVag, InIma, StandsIn, Replays, SampleReplays, track_entry}
 use Rattle.bank_compile.proofs.Replaying.{IsMade, made-of, made-in-image, made-in-vag}

@@ -27,7 +27,8 @@ use Rattle.bank_kinds.specs.Bound.{IsBound}
 use Rattle.bank_kinds.specs.Certified.{IsShown, AreShown, IsCertified, level_count, levels_of, segments_in}
 use Rattle.bank_kinds.specs.Fits.{IsFit, error_of}
 use Rattle.bank_compile.specs.Known.{certs_of, bounds_of, sums_of, IsKnown}
-use Rattle.bank_compile.specs.Sample.{Effort, AreFound, IsChosen, share_of, list_in}
+use Rattle.manifest_reader.specs.declared.effort.Effort.{Effort}
+use Rattle.bank_compile.specs.Sample.{AreFound, IsChosen, share_of, list_in}
 use Rattle.bank_compile.proofs.WholeLists.{nothing, nothing-in-range, nothing-first, are-parts}
 
 -- as many segments as blocks at most
@@ -39,36 +40,36 @@ segments-sum_up : (fixed : ℕ → Bool) (b : ℕ) (counts : List ℕ) (blocks :
 segments-sum_up fixed b [] blocks are = omega (arith, are)
 segments-sum_up fixed b (count ∷ counts) blocks are = let later = segments-sum_up fixed (b + count) counts blocks are.2 in omega (arith, later, sum_by-cons (λ n. n) count counts)
 
-as-many : (r : Rules) (width share : ℕ) (targets : List ℤ) (b : ℕ) (counts : List ℕ) (fs : List Found) → AreFound r width share targets b counts fs → length fs ≡ length counts
-as-many r width share targets b [] [] are = refl
-as-many r width share targets b [] (f ∷ fs) are = absurd are
-as-many r width share targets b (count ∷ counts) [] are = absurd are
-as-many r width share targets b (count ∷ counts) (f ∷ fs) are = let later = as-many r width share targets (b + count) counts fs are.1 in omega (arith, later)
+as-many : (r : Rules) (effort : Effort) (share : ℕ) (targets : List ℤ) (b : ℕ) (counts : List ℕ) (fs : List Found) → AreFound r effort share targets b counts fs → length fs ≡ length counts
+as-many r effort share targets b [] [] are = refl
+as-many r effort share targets b [] (f ∷ fs) are = absurd are
+as-many r effort share targets b (count ∷ counts) [] are = absurd are
+as-many r effort share targets b (count ∷ counts) (f ∷ fs) are = let later = as-many r effort share targets (b + count) counts fs are.1 in omega (arith, later)
 
 -- they can be written
-are-writable : (r : Rules) (width share : ℕ) (targets : List ℤ) (b : ℕ) (counts : List ℕ) (fs : List Found) → AreFound r width share targets b counts fs → AreWritable r.kind r.decoder.samples (certs_of fs)
-are-writable r width share targets b [] [] are = tt
-are-writable r width share targets b [] (f ∷ fs) are = absurd are
-are-writable r width share targets b (count ∷ counts) [] are = absurd are
-are-writable r width share targets b (count ∷ counts) (f ∷ fs) are = (are.0.writable, are-writable r width share targets (b + count) counts fs are.1)
+are-writable : (r : Rules) (effort : Effort) (share : ℕ) (targets : List ℤ) (b : ℕ) (counts : List ℕ) (fs : List Found) → AreFound r effort share targets b counts fs → AreWritable r.kind r.decoder.samples (certs_of fs)
+are-writable r effort share targets b [] [] are = tt
+are-writable r effort share targets b [] (f ∷ fs) are = absurd are
+are-writable r effort share targets b (count ∷ counts) [] are = absurd are
+are-writable r effort share targets b (count ∷ counts) (f ∷ fs) are = (are.0.writable, are-writable r effort share targets (b + count) counts fs are.1)
 
 -- as segments of so many blocks
-blocks-are : (r : Rules) (width share : ℕ) (targets : List ℤ) (b : ℕ) (counts : List ℕ) (fs : List Found) → AreFound r width share targets b counts fs → map blocks_of (certs_of fs) ≡ counts
-blocks-are r width share targets b [] [] are = refl
-blocks-are r width share targets b [] (f ∷ fs) are = absurd are
-blocks-are r width share targets b (count ∷ counts) [] are = absurd are
-blocks-are r width share targets b (count ∷ counts) (f ∷ fs) are =
-    ap (λ n. n ∷ map blocks_of (certs_of fs)) are.0.blocks_are ∙ ap (λ ns. count ∷ ns) (blocks-are r width share targets (b + count) counts fs are.1)
+blocks-are : (r : Rules) (effort : Effort) (share : ℕ) (targets : List ℤ) (b : ℕ) (counts : List ℕ) (fs : List Found) → AreFound r effort share targets b counts fs → map blocks_of (certs_of fs) ≡ counts
+blocks-are r effort share targets b [] [] are = refl
+blocks-are r effort share targets b [] (f ∷ fs) are = absurd are
+blocks-are r effort share targets b (count ∷ counts) [] are = absurd are
+blocks-are r effort share targets b (count ∷ counts) (f ∷ fs) are =
+    ap (λ n. n ∷ map blocks_of (certs_of fs)) are.0.blocks_are ∙ ap (λ ns. count ∷ ns) (blocks-are r effort share targets (b + count) counts fs are.1)
 
 -- each shows its bound
-are-shown : (r : Rules) (width share : ℕ) (targets : List ℤ) (b at : ℕ) (counts : List ℕ) (fs : List Found) → AreFound r width share targets b counts fs → AreShown r targets b (placed at (certs_of fs))
-are-shown r width share targets b at [] [] are = tt
-are-shown r width share targets b at [] (f ∷ fs) are = absurd are
-are-shown r width share targets b at (count ∷ counts) [] are = absurd are
-are-shown r width share targets b at (count ∷ counts) (f ∷ fs) are =
+are-shown : (r : Rules) (effort : Effort) (share : ℕ) (targets : List ℤ) (b at : ℕ) (counts : List ℕ) (fs : List Found) → AreFound r effort share targets b counts fs → AreShown r targets b (placed at (certs_of fs))
+are-shown r effort share targets b at [] [] are = tt
+are-shown r effort share targets b at [] (f ∷ fs) are = absurd are
+are-shown r effort share targets b at (count ∷ counts) [] are = absurd are
+are-shown r effort share targets b at (count ∷ counts) (f ∷ fs) are =
     let is = are.0 in
     let s : Segment = record { at = at + 16; blocks = f.cert.blocks; level = f.cert.level; bound = f.cert.bound; layers = f.cert.layers } in
-    let later = are-shown r width share targets (b + count) (at + length (segment_bytes f.cert)) counts fs are.1 in
+    let later = are-shown r effort share targets (b + count) (at + length (segment_bytes f.cert)) counts fs are.1 in
     let shown : IsShown r (part_targets r.decoder targets b count) s = record { accepted = is.accepted; bound = is.bound } in (
       subst (λ (n : ℕ). IsShown r (part_targets r.decoder targets b n) s) (sym is.blocks_are) shown,
       subst (λ (n : ℕ). AreShown r targets (b + n) (placed (at + length (segment_bytes f.cert)) (certs_of fs))) (sym is.blocks_are) later,
@@ -92,12 +93,12 @@ cut-of c fitted fit = segments-cut c.rules.kind fitted.blocks fitted.loop_block 
 few-found : (c : Codec) (effort : Effort) (fitted : Fitted) (fs : List Found) → IsFit c fitted → IsChosen c effort fitted fs → length fs ≤ 4096
 few-found c effort fitted fs fit chosen =
     let few = segments-few (fixed_in c fitted) 0 (segments_in c fitted) fitted.blocks (cut-of c fitted fit) in
-    let many = as-many c.rules effort.width (share_of c effort fitted) fitted.targets 0 (segments_in c fitted) fs chosen in
+    let many = as-many c.rules effort (share_of c effort fitted) fitted.targets 0 (segments_in c fitted) fs chosen in
     let most = fit.whole.few in
     omega (arith, few, many, most)
 
 chosen-writable : (c : Codec) (effort : Effort) (fitted : Fitted) (fs : List Found) → IsChosen c effort fitted fs → AreWritable c.rules.kind c.rules.decoder.samples (certs_of fs)
-chosen-writable c effort fitted fs chosen = are-writable c.rules effort.width (share_of c effort fitted) fitted.targets 0 (segments_in c fitted) fs chosen
+chosen-writable c effort fitted fs chosen = are-writable c.rules effort (share_of c effort fitted) fitted.targets 0 (segments_in c fitted) fs chosen
 
 -- what the lists of all segments are to the whole sound
 record IsWholeList (c : Codec) (fitted : Fitted) (fs : List Found) : Type 0 where
@@ -112,7 +113,7 @@ whole-list c effort fitted fs laws fit chosen =
     let fixed = fixed_in c fitted in
     let counts = segments_in c fitted in
     let cut = cut-of c fitted fit in
-    let parts = are-parts r effort.width (share_of c effort fitted) fitted.targets nothing 0 counts fs laws.laws.some_samples (nothing-in-range d) chosen in
+    let parts = are-parts r effort (share_of c effort fitted) fitted.targets nothing 0 counts fs laws.laws.some_samples (nothing-in-range d) chosen in
     let same = nothing-first fs in
     let blocks : 0 + sum counts ≡ fitted.blocks = segments-sum_up fixed 0 counts fitted.blocks cut in
     let in_range = subst (λ (n : ℕ). IsInRange d n (list_in fs)) blocks (subst (λ (l : Blocks). IsInRange d (0 + sum counts) l) same parts.in_range) in
@@ -137,15 +138,15 @@ chosen-certified c effort fitted fs laws fit chosen =
     let r = c.rules in
     let counts = segments_in c fitted in
     let share = share_of c effort fitted in
-    let writable = are-writable r effort.width share fitted.targets 0 counts fs chosen in
+    let writable = are-writable r effort share fitted.targets 0 counts fs chosen in
     let few = few-found c effort fitted fs fit chosen in
     let count = length-map fs (λ (f : Found). f.cert) in
     let read = read-back r.kind r.decoder.samples (certs_of fs) laws.laws.few_samples (omega (arith, few, count)) writable in
-    let blocks = blocks-are r effort.width share fitted.targets 0 counts fs chosen in
+    let blocks = blocks-are r effort share fitted.targets 0 counts fs chosen in
     record {
       segments = placed 8 (certs_of fs);
       read = subst (λ (ns : List ℕ). read_of r.kind r.decoder.samples ns (cert_bytes r.kind (certs_of fs)) ≡ Ok (placed 8 (certs_of fs))) blocks read;
-      shown = are-shown r effort.width share fitted.targets 0 8 counts fs chosen;
+      shown = are-shown r effort share fitted.targets 0 8 counts fs chosen;
       bound_is = bounds-are 8 fs;
       levels_are = ap levels_of (levels-are 8 fs);
     }
@@ -173,12 +174,12 @@ record NoneCoarse (levels : List ℕ) : Type 0 where
   floor_only : level_count 255 levels ≡ 0
 
 -- where every segment is searched state by state, each bound is its segment's sum
-all-exact : (r : Rules) (width share : ℕ) (targets : List ℤ) (b : ℕ) (counts : List ℕ) (fs : List Found) → AreFound r width share targets b counts fs → NoneCoarse (map (λ f. f.cert.level) fs)
+all-exact : (r : Rules) (effort : Effort) (share : ℕ) (targets : List ℤ) (b : ℕ) (counts : List ℕ) (fs : List Found) → AreFound r effort share targets b counts fs → NoneCoarse (map (λ f. f.cert.level) fs)
     → bounds_of fs ≡ sums_of fs
-all-exact r width share targets b [] [] are none = refl
-all-exact r width share targets b [] (f ∷ fs) are none = absurd are
-all-exact r width share targets b (count ∷ counts) [] are none = absurd are
-all-exact r width share targets b (count ∷ counts) (f ∷ fs) are none =
+all-exact r effort share targets b [] [] are none = refl
+all-exact r effort share targets b [] (f ∷ fs) are none = absurd are
+all-exact r effort share targets b (count ∷ counts) [] are none = absurd are
+all-exact r effort share targets b (count ∷ counts) (f ∷ fs) are none =
     let levels = map (λ (g : Found). g.cert.level) fs in
     let four = none-of f.cert.level 4 levels none.four in
     let eight = none-of f.cert.level 8 levels none.eight in
@@ -188,7 +189,7 @@ all-exact r width share targets b (count ∷ counts) (f ∷ fs) are none =
       | inr x ↦ elim x [ inl h ↦ absurd (four.0 h) | inr y ↦ elim y [ inl h ↦ absurd (eight.0 h) | inr h ↦ absurd (floor_only.0 h) ] ]
     ] in
     let here = are.0.optimal zero in
-    let later = all-exact r width share targets (b + count) counts fs are.1 (record { four = four.1; eight = eight.1; floor_only = floor_only.1 }) in
+    let later = all-exact r effort share targets (b + count) counts fs are.1 (record { four = four.1; eight = eight.1; floor_only = floor_only.1 }) in
     omega (arith, here, later, sum_by-cons (λ (g : Found). g.cert.bound) f fs, sum_by-cons (λ (g : Found). g.choice.sum) f fs)
 
 coarse-none : (levels : List ℕ) (n : ℕ) → levels_of levels ≡ n ∷ 0 ∷ 0 ∷ 0 ∷ [] → NoneCoarse levels
@@ -196,7 +197,7 @@ coarse-none levels n e = record { four = cc; eight = cc; floor_only = cc }
 
 chosen-exact : (c : Codec) (effort : Effort) (fitted : Fitted) (fs : List Found) (n : ℕ) → IsChosen c effort fitted fs → levels_of (map (λ f. f.cert.level) fs) ≡ n ∷ 0 ∷ 0 ∷ 0 ∷ [] → bounds_of fs ≡ sums_of fs
 chosen-exact c effort fitted fs n chosen levels =
-    all-exact c.rules effort.width (share_of c effort fitted) fitted.targets 0 (segments_in c fitted) fs chosen (coarse-none (map (λ (f : Found). f.cert.level) fs) n levels)
+    all-exact c.rules effort (share_of c effort fitted) fitted.targets 0 (segments_in c fitted) fs chosen (coarse-none (map (λ (f : Found). f.cert.level) fs) n levels)
 
 -- all that is known of what was found
 pub known-of : (c : Codec) (effort : Effort) (fitted : Fitted) (fs : List Found) → IsCodec c → IsFit c fitted → IsChosen c effort fitted fs

@@ -1,4 +1,3 @@
-pub mod FoundLaws
 pub mod JoinedLists
 pub mod PartTargets
 pub mod FoundParts

@@ -8,6 +8,7 @@ use Rattle.machine_core.specs.Segments.{part_targets}
 use Rattle.beam_encoder.specs.Beam.{block_count, AreWhole}
 use Rattle.branch_bound.specs.declared.top.Found.{Found}
 use Rattle.bank_kinds.proofs.CertifiedBounds.{part-count, part-range}
+use Rattle.manifest_reader.specs.declared.effort.Effort.{Effort}
 use Rattle.bank_compile.specs.Segment.{IsFound}
 
 -- a run of targets, where a block has n samples
@@ -31,8 +32,8 @@ part-whole d targets b count some within small range =
     }
 
 -- what was found for a run of targets was found for so many blocks
-pub part-found : (r : Rules) (width share : ℕ) (targets xs : List ℤ) (b count : ℕ) (f : Found) → xs ≡ part_targets r.decoder targets b count → 0 < r.decoder.samples → (b + count) * r.decoder.samples ≤ length targets
-    → IsFound r width share xs (block_count r.decoder xs) f → IsFound r width share (part_targets r.decoder targets b count) count f
-part-found r width share targets xs b count f is some within found =
-    subst (λ (n : ℕ). IsFound r width share (part_targets r.decoder targets b count) n f) (part-blocks r.decoder targets b count some within)
-    (subst (λ (ts : List ℤ). IsFound r width share ts (block_count r.decoder ts) f) is found)
+pub part-found : (r : Rules) (effort : Effort) (share : ℕ) (targets xs : List ℤ) (b count : ℕ) (f : Found) → xs ≡ part_targets r.decoder targets b count → 0 < r.decoder.samples → (b + count) * r.decoder.samples ≤ length targets
+    → IsFound r effort share xs (block_count r.decoder xs) f → IsFound r effort share (part_targets r.decoder targets b count) count f
+part-found r effort share targets xs b count f is some within found =
+    subst (λ (n : ℕ). IsFound r effort share (part_targets r.decoder targets b count) n f) (part-blocks r.decoder targets b count some within)
+    (subst (λ (ts : List ℤ). IsFound r effort share ts (block_count r.decoder ts) f) is found)

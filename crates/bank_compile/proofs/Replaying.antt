@@ -47,7 +47,8 @@ use Rattle.bank_kinds.specs.Kinds.{brr_codec, spu_codec}
 use Rattle.bank_kinds.specs.Laws.{brr_is_stored, spu_is_stored, brr_is_flagged, spu_is_flagged}
 use Rattle.bank_kinds.specs.Fits.{IsFit, AreWithin, played_of, bytes_of, first_of, error_of}
 use Rattle.bank_compile.specs.Known.{certs_of, bounds_of, levels_in}
-use Rattle.bank_compile.specs.Sample.{Effort, IsCompiled, list_in, out_of}
+use Rattle.manifest_reader.specs.declared.effort.Effort.{Effort}
+use Rattle.bank_compile.specs.Sample.{IsCompiled, list_in, out_of}
 use Rattle.bank_compile.specs.Bank.{IsOut, part_of, sound_file, image_of}
 use Rattle.bank_kinds.specs.Replay.{Entry, InImage, InVag, Replays, track_entry}
 use Rattle.bank_compile.proofs.ChosenLaws.{chosen-legal, chosen-certified}

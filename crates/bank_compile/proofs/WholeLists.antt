@@ -13,6 +13,7 @@ use Rattle.machine_core.specs.Segments.{part_of, part_targets, joined, AreLegal,
 use Rattle.machine_core.proofs.PartLaws.{moved-place}
 use Rattle.branch_bound.specs.declared.top.Found.{Found}
 use Rattle.bank_kinds.specs.Chosen.{list_of}
+use Rattle.manifest_reader.specs.declared.effort.Effort.{Effort}
 use Rattle.bank_compile.specs.Sample.{AreFound, list_in}
 
 -- the part in the middle
@@ -77,9 +78,9 @@ pub record ArePartsOf (r : Rules) (targets : List ℤ) (front : Blocks) (b : ℕ
   pub legal : AreLegal r.decoder (joined front (list_in fs)) b counts
   pub sums : segment_sums r.decoder (joined front (list_in fs)) targets b counts ≡ sum_by (λ f. f.choice.sum) fs
 
-pub are-parts : (r : Rules) (width share : ℕ) (targets : List ℤ) (front : Blocks) (b : ℕ) (counts : List ℕ) (fs : List Found) → 0 < r.decoder.samples → IsInRange r.decoder b front
-    → AreFound r width share targets b counts fs → ArePartsOf r targets front b counts fs
-are-parts r width share targets front b [] [] some before are =
+pub are-parts : (r : Rules) (effort : Effort) (share : ℕ) (targets : List ℤ) (front : Blocks) (b : ℕ) (counts : List ℕ) (fs : List Found) → 0 < r.decoder.samples → IsInRange r.decoder b front
+    → AreFound r effort share targets b counts fs → ArePartsOf r targets front b counts fs
+are-parts r effort share targets front b [] [] some before are =
     let plain : joined front nothing ≡ blocks_of front.heads front.symbols = ap (λ h. blocks_of h (front.symbols ++ [])) (append-nil front.heads) ∙ ap (blocks_of front.heads) (append-nil front.symbols) in
     let none : b ≡ b + 0 = omega arith in
     record {
@@ -87,15 +88,15 @@ are-parts r width share targets front b [] [] some before are =
       legal = tt;
       sums = refl;
     }
-are-parts r width share targets front b [] (f ∷ fs) some before are = absurd are
-are-parts r width share targets front b (count ∷ counts) [] some before are = absurd are
-are-parts r width share targets front b (count ∷ counts) (f ∷ fs) some before are =
+are-parts r effort share targets front b [] (f ∷ fs) some before are = absurd are
+are-parts r effort share targets front b (count ∷ counts) [] some before are = absurd are
+are-parts r effort share targets front b (count ∷ counts) (f ∷ fs) some before are =
     let d = r.decoder in
     let list = list_of f.choice in
     let choice = are.0.choice in
     let next = joined front list in
     let whole = joined front (list_in (f ∷ fs)) in
-    let more = are-parts r width share targets next (b + count) counts fs some (joined-in-range d b count front list some before choice.legal.in_range) are.1 in
+    let more = are-parts r effort share targets next (b + count) counts fs some (joined-in-range d b count front list some before choice.legal.in_range) are.1 in
     let same : joined next (list_in fs) ≡ whole = sym (joined-three front list (list_in fs)) in
     let part : part_of d whole b count ≡ list = part-is-list d b count front list (list_in fs) before choice.legal.in_range in
     let ends : b + count + sum counts ≡ b + sum (count ∷ counts) = omega (arith, sum_by-cons (λ n. n) count counts) in

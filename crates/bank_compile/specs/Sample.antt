@@ -11,24 +11,20 @@ use Rattle.bound_cert.specs.Spelling.{cert_bytes}
 use Rattle.branch_bound.specs.declared.top.Found.{Found}
 use Rattle.report_text.specs.declared.report.SampleReport.{SampleReport}
 use Rattle.bank_compile.specs.declared.sample.SampleOut.{SampleOut}
+use Rattle.manifest_reader.specs.declared.effort.Effort.{Effort}
 use Rattle.bank_compile.specs.Segment.{IsFound}
 use Rattle.bank_kinds.specs.Chosen.{list_of}
 use Rattle.bank_kinds.specs.Codec.{Codec, fixed_in}
 use Rattle.bank_kinds.specs.Certified.{levels_of, segments_in}
 use Rattle.bank_kinds.specs.Fits.{bytes_of, first_of, error_of, loop_shown}
 
--- how a sample is searched: the beam's width, and how many cells all its segments may list
-pub record Effort : Type 0 where
-  pub width : ℕ
-  pub budget : ℕ
-
 -- what is found for each segment from block b on
-abbrev pub AreFound : Rules → ℕ → ℕ → List ℤ → ℕ → List ℕ → List Found → Type 0
-AreFound r width share targets b [] [] = ⊤
-AreFound r width share targets b [] (f ∷ fs) = ⊥
-AreFound r width share targets b (count ∷ counts) [] = ⊥
-AreFound r width share targets b (count ∷ counts) (f ∷ fs) =
-    IsFound r width share (part_targets r.decoder targets b count) count f × AreFound r width share targets (b + count) counts fs
+abbrev pub AreFound : Rules → Effort → ℕ → List ℤ → ℕ → List ℕ → List Found → Type 0
+AreFound r effort share targets b [] [] = ⊤
+AreFound r effort share targets b [] (f ∷ fs) = ⊥
+AreFound r effort share targets b (count ∷ counts) [] = ⊥
+AreFound r effort share targets b (count ∷ counts) (f ∷ fs) =
+    IsFound r effort share (part_targets r.decoder targets b count) count f × AreFound r effort share targets (b + count) counts fs
 
 -- their lists, one after another
 abbrev pub list_in : List Found → Blocks
@@ -41,7 +37,7 @@ share_of c effort fitted = effort.budget / length (segments_in c fitted)
 
 -- what is found for a fitted sound, segment by segment
 abbrev pub IsChosen : Codec → Effort → Fitted → List Found → Type 0
-IsChosen c effort fitted founds = AreFound c.rules effort.width (share_of c effort fitted) fitted.targets 0 (segments_in c fitted) founds
+IsChosen c effort fitted founds = AreFound c.rules effort (share_of c effort fitted) fitted.targets 0 (segments_in c fitted) founds
 
 -- what is told of the sample
 abbrev pub report_of : Codec → List ℕ → Fitted → List Found → SampleReport

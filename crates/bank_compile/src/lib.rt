@@ -17,6 +17,3 @@ pub use kinds::compile_sample;
 pub use replay::stored_bank_replays;
 pub use sample::SampleOut;
 pub use told::report;
-
-#[cfg(test)]
-mod tests;

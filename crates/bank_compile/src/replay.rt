@@ -7,7 +7,8 @@ ghost use Rattle.manifest_reader.specs.Stored.{cert_name_of};
 ghost use Rattle.bank_kinds.specs.Certified.{IsCertified};
 ghost use Rattle.bank_compile.specs.declared.sample.SampleOut.{SampleOut};
 ghost use Rattle.bank_kinds.specs.Kinds.{codec_for};
-ghost use Rattle.bank_compile.specs.Sample.{Effort, IsCompiled};
+ghost use Rattle.manifest_reader.specs.declared.effort.Effort.{Effort};
+ghost use Rattle.bank_compile.specs.Sample.{IsCompiled};
 ghost use Rattle.bank_compile.specs.Bank.{IsOut, bank_of};
 ghost use Rattle.bank_kinds.specs.Replay.{IsHeld, SampleReplays};
 

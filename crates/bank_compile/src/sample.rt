@@ -9,6 +9,7 @@ ghost use Rattle.bank_kinds.specs.Bound.{IsBound};
 ghost use Rattle.bank_kinds.specs.Certified.{IsCertified};
 ghost use Rattle.bank_kinds.specs.Fits.{IsFit, bytes_of, first_of, loop_shown, played_in};
 ghost use Rattle.bank_compile.specs.Known.{certs_of, bounds_of, levels_in};
+ghost use Rattle.manifest_reader.specs.Ranges.{IsEffort};
 ghost use Rattle.bank_compile.specs.Sample.{IsCompiled, IsReached, beams_error};
 ghost use Rattle.bank_compile.specs.Bank.{IsOut};
 
@@ -20,6 +21,7 @@ use bound_cert::write_cert;
 use branch_bound::Found;
 use loop_fit::Fitted;
 use machine_core::{Choice, Kind};
+use manifest_reader::Effort;
 use report_text::SampleReport;
 use std::alloc::Global;
 
@@ -133,32 +135,30 @@ fn spelled<C: Encode>(
     })
 }
 
-/// Compiles a fitted sound to the blocks of a codec: searches its segments, the beam of a width first, and tells how far the chosen blocks are from it.
+/// Compiles a fitted sound to the blocks of a codec: searches its segments, and tells how far the chosen blocks are from it.
 pub(crate) fn encoded<C: Encode>(
     alloc: Global,
     codec: &C,
     name: &str,
     rate: u32,
-    width: u32,
-    budget: u32,
+    effort: Effort,
     fitted: Fitted,
 ) -> Result<SampleOut, NoMemory>
     requires short { length name.now ≤ 16 }
     requires some_rate { 1 ≤ rate }
     requires high_rate { rate ≤ 1000000 }
     requires fit { IsFit (codec_of (C.rules codec.now) (C.bytes codec.now)) fitted }
-    requires some { 0 < width }
-    requires few { width ≤ 64 }
-    ensures compiled { IfOk result (IsCompiled (codec_of (C.rules codec.now) (C.bytes codec.now)) (record { width = width; budget = budget }) name.now rate fitted) }
+    requires effort { IsEffort effort }
+    ensures compiled { IfOk result (IsCompiled (codec_of (C.rules codec.now) (C.bytes codec.now)) effort name.now rate fitted) }
     ensures out { IfOk result (IsOut (codec_of (C.rules codec.now) (C.bytes codec.now))) }
     ensures certified { IfOk result (λ out. IsCertified (codec_of (C.rules codec.now) (C.bytes codec.now)) out.cert fitted out.report.bound out.report.levels) }
     ensures lowest { IfOk result (λ out. IsBound (codec_of (C.rules codec.now) (C.bytes codec.now)) fitted out.report.bound) }
     ensures bound { IfOk result (λ out. out.report.bound ≤ out.report.error) }
     ensures whole { IfOk result (λ out. (n : ℕ) → out.report.levels ≡ n ∷ 0 ∷ 0 ∷ 0 ∷ [] → out.report.bound ≡ out.report.error) }
-    ensures near_beam { IfOk result (λ out. out.report.error ≤ beams_error (codec_of (C.rules codec.now) (C.bytes codec.now)) width fitted) }
+    ensures near_beam { IfOk result (λ out. out.report.error ≤ beams_error (codec_of (C.rules codec.now) (C.bytes codec.now)) effort.beam fitted) }
     ensures reached { IfOk result (λ out. IsReached (codec_of (C.rules codec.now) (C.bytes codec.now)) fitted out.report.error) }
 {
-    let founds = search_segments(alloc, codec, &fitted, width, budget)?;
+    let founds = search_segments(alloc, codec, &fitted, effort)?;
     let samples = fitted.targets.as_slice().len();
     let choice = joined(alloc, founds.as_slice(), fitted.blocks as usize, samples)?;
     let report = told(alloc, name, &fitted, choice.sum, founds.as_slice())?;

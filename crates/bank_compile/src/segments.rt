@@ -7,6 +7,7 @@ ghost use Rattle.beam_encoder.specs.Beam.{beam_sum};
 ghost use Rattle.bank_kinds.specs.Codec.{codec_of};
 ghost use Rattle.bank_kinds.specs.Fits.{IsFit};
 ghost use Rattle.bank_kinds.specs.Certified.{segments_in};
+ghost use Rattle.manifest_reader.specs.Ranges.{IsEffort};
 ghost use Rattle.bank_compile.specs.Segment.{IsFound};
 ghost use Rattle.bank_compile.specs.Sample.{AreFound, IsChosen, beam_sums};
 ghost use Rattle.bank_compile.specs.Known.{IsKnown};
@@ -17,6 +18,7 @@ use bank_kinds::{Encode, certified_bounds_hold};
 use branch_bound::Found;
 use loop_fit::{Fitted, segments};
 use machine_core::Machine;
+use manifest_reader::Effort;
 use std::alloc::Global;
 
 /// Searches the segment of `count` blocks that begins with block `first`.
@@ -26,7 +28,7 @@ fn search_part<M: Machine>(
     targets: &[i32],
     first: u32,
     count: u32,
-    width: u32,
+    effort: Effort,
     share: u32,
 ) -> Result<Found, NoMemory>
     requires within { (first + count) * (M.rules machine.now).decoder.samples ≤ length targets.now }
@@ -34,17 +36,16 @@ fn search_part<M: Machine>(
     requires range { AreSamples targets.now }
     requires blocks { 0 < count }
     requires few_blocks { count < 65536 }
-    requires some { 0 < width }
-    requires few { width ≤ 64 }
+    requires effort { IsEffort effort }
     requires filed { IsFiled (M.rules machine.now) }
     requires room { (M.rules machine.now).decoder.heads * (M.rules machine.now).floor_len < 2 ^ 31 }
-    ensures found { IfOk result (IsFound (M.rules machine.now) width share (part_targets (M.rules machine.now).decoder targets.now first count) count) }
-    ensures near_beam { IfOk result (λ f. f.choice.sum ≤ beam_sum (M.rules machine.now).decoder width (part_targets (M.rules machine.now).decoder targets.now first count)) }
+    ensures found { IfOk result (IsFound (M.rules machine.now) effort share (part_targets (M.rules machine.now).decoder targets.now first count) count) }
+    ensures near_beam { IfOk result (λ f. f.choice.sum ≤ beam_sum (M.rules machine.now).decoder effort.beam (part_targets (M.rules machine.now).decoder targets.now first count)) }
 {
     let samples = machine.block_samples() as usize;
     let start = first as usize * samples;
     let end = start + count as usize * samples;
-    match search_segment(alloc, machine, &targets[start..end], width, share) {
+    match search_segment(alloc, machine, &targets[start..end], effort, share) {
         Ok(found) => Ok(found),
         Err(e) => Err(e),
     }
@@ -56,7 +57,7 @@ fn search_parts<M: Machine>(
     machine: &M,
     targets: &[i32],
     counts: &[u32],
-    width: u32,
+    effort: Effort,
     share: u32,
 ) -> Result<Vec<Found>, NoMemory>
     requires none_empty { All (λ n. 0 < n) counts.now }
@@ -64,12 +65,11 @@ fn search_parts<M: Machine>(
     requires whole { length targets.now ≡ sum counts.now * (M.rules machine.now).decoder.samples }
     requires small { length targets.now ≤ 262144 }
     requires range { AreSamples targets.now }
-    requires some { 0 < width }
-    requires few { width ≤ 64 }
+    requires effort { IsEffort effort }
     requires filed { IsFiled (M.rules machine.now) }
     requires room { (M.rules machine.now).decoder.heads * (M.rules machine.now).floor_len < 2 ^ 31 }
-    ensures found { IfOk result (λ founds. AreFound (M.rules machine.now) width share targets.now 0 counts.now founds.items) }
-    ensures near_beam { IfOk result (λ founds. sum_by (λ f. f.choice.sum) founds.items ≤ beam_sums (M.rules machine.now) width targets.now 0 counts.now) }
+    ensures found { IfOk result (λ founds. AreFound (M.rules machine.now) effort share targets.now 0 counts.now founds.items) }
+    ensures near_beam { IfOk result (λ founds. sum_by (λ f. f.choice.sum) founds.items ≤ beam_sums (M.rules machine.now) effort.beam targets.now 0 counts.now) }
 {
     let mut founds = match Vec::with_capacity(alloc, counts.len()) {
         Ok(founds) => founds,
@@ -77,7 +77,7 @@ fn search_parts<M: Machine>(
     };
     let mut first = 0;
     for count in counts {
-        let found = search_part(alloc, machine, targets, first, *count, width, share)?;
+        let found = search_part(alloc, machine, targets, first, *count, effort, share)?;
         match founds.push(found) {
             Ok(()) => {}
             Err(_) => return Err(NoMemory),
@@ -92,27 +92,25 @@ pub(crate) fn search_segments<C: Encode>(
     alloc: Global,
     codec: &C,
     fitted: &Fitted,
-    width: u32,
-    budget: u32,
+    effort: Effort,
 ) -> Result<Vec<Found>, NoMemory>
     requires fit { IsFit (codec_of (C.rules codec.now) (C.bytes codec.now)) fitted.now }
-    requires some { 0 < width }
-    requires few { width ≤ 64 }
-    ensures chosen { IfOk result (λ founds. IsChosen (codec_of (C.rules codec.now) (C.bytes codec.now)) (record { width = width; budget = budget }) fitted.now founds.items) }
+    requires effort { IsEffort effort }
+    ensures chosen { IfOk result (λ founds. IsChosen (codec_of (C.rules codec.now) (C.bytes codec.now)) effort fitted.now founds.items) }
     ensures near_beam { IfOk result (λ founds. sum_by (λ f. f.choice.sum) founds.items
-        ≤ beam_sums (C.rules codec.now) width fitted.now.targets 0 (segments_in (codec_of (C.rules codec.now) (C.bytes codec.now)) fitted.now)) }
+        ≤ beam_sums (C.rules codec.now) effort.beam fitted.now.targets 0 (segments_in (codec_of (C.rules codec.now) (C.bytes codec.now)) fitted.now)) }
     ensures known { IfOk result (λ founds. IsKnown (codec_of (C.rules codec.now) (C.bytes codec.now)) fitted.now founds.items) }
 {
     certified_bounds_hold();
     let counts = segments(alloc, codec.kind(), fitted.blocks, fitted.loop_block)?;
     let counts = counts.as_slice();
-    let share = budget / counts.len() as u32;
+    let share = effort.budget / counts.len() as u32;
     match search_parts(
         alloc,
         codec,
         fitted.targets.as_slice(),
         counts,
-        width,
+        effort,
         share,
     ) {
         Ok(founds) => Ok(founds),

@@ -20,20 +20,3 @@ pub use tool_decompile::run_decompile;
 pub use tool_play::run_play;
 pub use tool_words::{Command, read_words};
 pub use top::run;
-
-#[cfg(test)]
-mod bound_tests;
-#[cfg(test)]
-mod check_tests;
-#[cfg(test)]
-mod compile_tests;
-#[cfg(test)]
-mod decompile_tests;
-#[cfg(test)]
-mod play_tests;
-#[cfg(test)]
-mod test_files;
-#[cfg(test)]
-mod test_host;
-#[cfg(test)]
-mod tests;

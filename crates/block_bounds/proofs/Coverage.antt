@@ -17,7 +17,7 @@ use Rattle.window_floor.specs.Outcome.{IsWrap, none as no_wrap}
 use Rattle.window_floor.specs.Windows.{Windows}
 use Rattle.window_floor.proofs.Equations.{error-equation}
 use Rattle.block_bounds.specs.Outputs.{weight_of, Outputs, ends, goes}
-use Rattle.block_bounds.specs.Clamps.{IsResult, MayCome, over, under, inside}
+use Rattle.window_floor.specs.Clamps.{IsResult, MayCome, over, under, inside}
 use Rattle.block_bounds.proofs.Clamped.{natural-scale, error-size, sum-size, over-fits, under-fits}
 use Rattle.block_bounds.proofs.RowSums.{sum-as}
 use Rattle.block_bounds.specs.Covers.{IsKnownRow, Covers, AreSteps, LayersFor, none, more}

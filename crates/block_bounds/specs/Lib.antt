@@ -1,4 +1,3 @@
-pub mod Clamps
 pub mod Outputs
 pub mod Covers
 pub mod Steps

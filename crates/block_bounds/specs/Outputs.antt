@@ -3,7 +3,7 @@ use Rattle.std.specs.Prelude.{ℕ, ◌+◌, ◌*◌, ℤ, ◌-ℤ◌, ◌*ℤ◌
 use Rattle.adpcm_nums.specs.Nums.{square_of}
 use Rattle.adpcm_nums.specs.Sample.{IsSample}
 use Rattle.window_floor.specs.Windows.{Windows}
-use Rattle.block_bounds.specs.Clamps.{MayCome}
+use Rattle.window_floor.specs.Clamps.{MayCome}
 
 -- how often the error of a place is counted, with so many places of the block after it: the last two once where the next block counts them again
 unfoldable pub weight_of : Bool → ℕ → ℕ

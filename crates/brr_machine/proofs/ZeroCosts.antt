@@ -1,5 +1,5 @@
 -- Under filter 0 a code costs what it costs on top of the prediction 0.
-use Rattle.std.proofs.Common.{◌≡◌, ℕ, zero, suc, ◌/◌, ◌%◌, ◌<◌, arith, refl, ap, sym, ◌∙◌, List, get_or}
+use Rattle.std.proofs.Common.{◌≡◌, ℕ, ◌/◌, ◌%◌, ◌<◌, arith, refl, ap, sym, ◌∙◌, List, get_or}
 use Rattle.std.specs.Prelude.{ℤ, pos}
 use Rattle.adpcm_nums.specs.Least.{first_least}
 use Rattle.machine_core.specs.declared.state.State.{State}
@@ -8,14 +8,9 @@ use Rattle.machine_core.specs.Nearest.{symbol_cost}
 use Rattle.machine_core.specs.Blocks.{Blocks, state_at, symbol_at}
 use Rattle.machine_core.specs.Sums.{cost_at}
 use Rattle.brr_machine.specs.Brr.{brr, brr_step, output_of, raw_of, prediction_of, shift_of, filter_of}
+use Rattle.brr_machine.specs.Laws.Forgetting.{predicts-nothing}
 use Rattle.brr_machine.specs.Predicted.{predicted_output, predicted_cost, nearest_predicted}
 use Rattle.brr_machine.specs.Zero.{zero_head, code_cost, nearest_code}
-
--- filter 0 predicts 0
-prediction-zero : (filter : ℕ) (o r : ℤ) → filter ≡ 0 → prediction_of filter o r ≡ pos 0
-unfolding prediction_of
-prediction-zero zero o r e = refl
-prediction-zero (suc n) o r e = absurd (omega (arith, e))
 
 -- a head of filter 0 has filter 0, and its shift
 zero-filter : (shift : ℕ) → filter_of (zero_head shift) ≡ 0
@@ -33,7 +28,7 @@ same-cost head place from target = refl
 any-history : (shift place : ℕ) (from : State) (target : ℤ) → predicted_cost shift (pos 0) target ≡ symbol_cost brr (zero_head shift) place from target
 any-history shift place from target =
     ap (λ (n : ℕ). predicted_cost n (pos 0) target) (sym (zero-shift shift))
-    ∙ ap (λ (p : ℤ). predicted_cost (shift_of (zero_head shift)) p target) (sym (prediction-zero (filter_of (zero_head shift)) from.a from.b (zero-filter shift)))
+    ∙ ap (λ (p : ℤ). predicted_cost (shift_of (zero_head shift)) p target) (sym (predicts-nothing (filter_of (zero_head shift)) from.a from.b (zero-filter shift)))
     ∙ same-cost (zero_head shift) place from target
 
 -- and so in the words of the best block

@@ -1,4 +1,6 @@
 ghost use Rattle.std.proofs.Common.{refl};
+ghost use Rattle.std.specs.Prelude.{◌≡◌};
+ghost use Rattle.brr_machine.specs.Brr.{is_output};
 ghost use Rattle.brr_machine.specs.BrrRules.{brr_rules};
 ghost use Rattle.brr_machine.specs.Laws.{brr_is_machine};
 ghost use Rattle.brr_machine.specs.Floors.{brr_linear};
@@ -108,11 +110,22 @@ impl Machine for Brr {
     ghost boxed = { λ _. brr_is_boxed };
 }
 
+/// Whether a number has 15 bits, signed.
+fn has_15_bits(y: i32) -> bool
+    ensures { result ≡ is_output y }
+{
+    -16384 <= y && y <= 16383
+}
+
 impl LinearMachine for Brr {
     ghost linear = { λ _. brr_linear };
 
     fn windows(&self, head: u32) -> BlockWindows {
         windows(head)
+    }
+
+    fn is_state(&self, at: State) -> bool {
+        has_15_bits(at.a) && has_15_bits(at.b)
     }
 
     ghost is_linear = { λ _. (brr_is_linear, refl) };

@@ -1,6 +1,6 @@
-//! Hosts over the files of the runtime and over files in memory.
+//! Hosts over the files of the runtime and over files in memory that never fail.
 
-use host_files::{Host, HostFault, MemoryHost, RealHost, SteadyHost};
+use host_files::{Host, HostFault, RealHost, SteadyHost};
 use std::test::Fail;
 
 #[test]
@@ -59,24 +59,5 @@ fn a_steady_host_keeps_the_newest_bytes(rt: HostRuntime) -> Result<(), Fail> {
     assert_eq!(rt; host.said(), b"one two".as_slice());
     assert_eq!(rt; host.file("name").ok_or("no file")?, b"newer".as_slice());
     assert!(rt; host.file("absent").is_none());
-    Ok(())
-}
-
-#[test]
-fn a_memory_host_fails_where_it_is_told(rt: HostRuntime) -> Result<(), Fail> {
-    let mut fails = Vec::new(rt.alloc());
-    fails.push(1)?;
-    let mut host = MemoryHost::new(rt.alloc(), fails);
-    host.put("name", b"old").map_err(|_| "put")?;
-    let whole = host.fetch(rt.alloc(), "name", 9).map_err(|_| "fetch")?;
-    assert_eq!(rt; whole.as_slice(), b"old".as_slice());
-    assert_eq!(rt; host.store("name", b"new"), Err(HostFault::Failed));
-    assert_eq!(rt; host.file("name").ok_or("no file")?, b"old".as_slice());
-    assert_eq!(rt; host.store("name", b"new"), Ok(()));
-    assert_eq!(rt; host.file("name").ok_or("no file")?, b"new".as_slice());
-    assert!(rt; matches!(host.fetch(rt.alloc(), "absent", 9), Err(HostFault::Failed)));
-    assert_eq!(rt; host.say(b"said"), Ok(()));
-    assert_eq!(rt; host.said(), b"said".as_slice());
-    assert_eq!(rt; host.faults(), 2);
     Ok(())
 }

@@ -1,10 +1,10 @@
 //! Tracks and their players, by index and one output after another.
 
 use adpcm_nums::LoopAt;
-use block_flags::SplitFault;
-use ima_machine::{Ima, ImaFault};
+use ima_machine::Ima;
 use player_model::{
-    BrrPlayer, ImaPlayer, SpuPlayer, TrackFault, brr_track, ima_track, play_brr_at, play_ima_at, play_spu_at, spu_track,
+    BrrPlayer, ImaPlayer, SpuPlayer, TrackFault, brr_track, ima_track, play_brr_at, play_ima_at,
+    play_spu_at, spu_track,
 };
 use std::test::Fail;
 
@@ -25,51 +25,17 @@ fn plays_on_with_the_history(rt: HostRuntime) -> Result<(), Fail> {
     for (i, output) in outputs.iter().enumerate() {
         assert_eq!(rt; play_brr_at(&track, i as u64), *output, "output {i}");
     }
+    assert_eq!(rt; play_brr_at(&track, u64::MAX), 0);
+    assert_eq!(rt;
+        brr_track(&FADING, 0, 18).err(),
+        Some(TrackFault::BadAgain { at: 18 })
+    );
     let mut player = BrrPlayer::new(track);
     for (i, output) in outputs.iter().enumerate() {
         assert!(rt; player.count() == i as u64);
         assert_eq!(rt; player.next(), *output, "output {i}");
     }
     Ok(())
-}
-
-#[test]
-fn keeps_the_history_over_the_loop_jump(rt: HostRuntime) -> Result<(), Fail> {
-    let mut memory = FADING;
-    memory[0] = 0x60;
-    let track = brr_track(&memory, 0, 9).map_err(|_| "a track")?;
-    assert_eq!(rt; play_brr_at(&track, 31), 8);
-    assert_eq!(rt; play_brr_at(&track, 32), 7);
-    assert_eq!(rt; play_brr_at(&track, u64::MAX), 0);
-    Ok(())
-}
-
-#[test]
-fn repeats_or_falls_silent(rt: HostRuntime) -> Result<(), Fail> {
-    for (header, last) in [(0x53, 16), (0x51, 0)] {
-        let mut memory = FADING;
-        memory[0] = header;
-        let track = brr_track(&memory, 0, 0).map_err(|_| "a track")?;
-        assert_eq!(rt; play_brr_at(&track, 15), 16);
-        assert_eq!(rt; play_brr_at(&track, u64::MAX), last);
-    }
-    Ok(())
-}
-
-#[test]
-fn tells_why_there_is_no_track(rt: HostRuntime) {
-    assert_eq!(rt;
-        brr_track(&FADING[..9], 0, 0).err(),
-        Some(TrackFault::NoEnd { at: 9 })
-    );
-    assert_eq!(rt;
-        brr_track(&FADING, 12, 0).err(),
-        Some(TrackFault::NoEnd { at: 12 })
-    );
-    assert_eq!(rt;
-        brr_track(&FADING, 0, 8).err(),
-        Some(TrackFault::BadAgain { at: 8 })
-    );
 }
 
 /// Two blocks of SPU-ADPCM, the second of which repeats: codes 1 under shift 12, then zeros under filter 1.
@@ -96,29 +62,6 @@ fn goes_back_to_the_last_start(rt: HostRuntime) -> Result<(), Fail> {
     assert_eq!(rt; player.next(), 1);
     assert_eq!(rt; player.next(), -8);
     Ok(())
-}
-
-#[test]
-fn tells_why_bytes_are_no_track(rt: HostRuntime) {
-    let mut bytes = [0u8; 48];
-    bytes[33] = 1;
-    bytes[32] = 0x50;
-    assert_eq!(rt;
-        spu_track(&bytes).err(),
-        Some(TrackFault::BadFilter {
-            block: 2,
-            filter: 5
-        })
-    );
-    bytes[17] = 1;
-    assert!(rt; spu_track(&bytes).is_ok(), "a bad filter behind the end");
-    bytes[17] = 3;
-    assert_eq!(rt;
-        spu_track(&bytes).err(),
-        Some(TrackFault::Split {
-            fault: SplitFault::NoLoopStart { at: 16 }
-        })
-    );
 }
 
 /// A block of IMA ADPCM: 0, then eight codes 1 0 0 0 0 0 0 0 from the least step, which give 1 each.
@@ -150,22 +93,5 @@ fn frames_go_round_their_loop(rt: HostRuntime) -> Result<(), Fail> {
         );
     }
     assert_eq!(rt; play_ima_at(&again, u64::MAX), 1);
-    Ok(())
-}
-
-#[test]
-fn tells_the_first_bad_head(rt: HostRuntime) -> Result<(), Fail> {
-    let machine = Ima::new(8).ok_or("a block of 8 bytes")?;
-    let mut bytes = [0u8; 24];
-    bytes[10] = 89;
-    bytes[18] = 200;
-    let fault = ima_track(machine, &bytes, 27, None).err();
-    assert_eq!(rt;
-        fault,
-        Some(TrackFault::BadHead {
-            block: 1,
-            fault: ImaFault::BadIndex { index: 89 }
-        })
-    );
     Ok(())
 }

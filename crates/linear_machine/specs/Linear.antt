@@ -1,10 +1,11 @@
 -- Linear decoders: an output is what a head's filter predicts from the last two outputs, and one of the head's sixteen samples.
 use Rattle.std.specs.Prelude.{◌≡◌, ℕ, ◌<◌, ℤ, pos, get_or}
+use Rattle.adpcm_nums.specs.Sample.{IsSample}
 use Rattle.machine_core.specs.declared.state.State.{State}
 use Rattle.machine_core.specs.Decoder.{Decoder}
 use Rattle.window_floor.specs.Row.{size_of}
-use Rattle.window_floor.specs.Outcome.{IsOutcome}
 use Rattle.window_floor.specs.Windows.{Windows, IsSound}
+use Rattle.window_floor.specs.Clamps.{MayCome}
 
 -- a decoder whose states are its last two outputs
 pub record Linear : Type 0 where
@@ -13,10 +14,6 @@ pub record Linear : Type 0 where
   pub windows : ℕ → Windows
   -- head, code, the last output and the one before it
   pub output : ℕ → ℕ → ℤ → ℤ → ℤ
-
--- y may come after the outputs r and o
-abbrev pub MayFollow : Windows → ℤ → ℤ → ℤ → Type 0
-MayFollow b r o y = IsOutcome b.row b.samples b.first b.second r o y
 
 -- its windows tell of every head, whether the decoder has it or not, and of every two outputs what may come after them
 pub record IsLinear (l : Linear) : Type 0 where
@@ -27,6 +24,9 @@ pub record IsLinear (l : Linear) : Type 0 where
   pub codes : (p : ℕ) → p < l.decoder.samples → l.decoder.symbols p ≡ 16
   -- the new output comes first, the last one behind it
   pub steps : (head p code : ℕ) (at : State) → l.decoder.step head p code at ≡ record { a = l.output head code at.a at.b; b = at.a }
-  pub outcome : (head code : ℕ) (o r : ℤ) → code < 16 → MayFollow (l.windows head) r o (l.output head code o r)
+  -- outputs have 16 bits
+  pub range : (head code : ℕ) (o r : ℤ) → IsSample (l.output head code o r)
+  -- clamping leaves a known output only where the filter came to more or to less than 16 bits
+  pub outcome : (head code : ℕ) (o r : ℤ) → code < 16 → MayCome (l.windows head) r o (l.output head code o r)
   -- where the filter ties no places together an output is the code's sample
   pub free : (head code : ℕ) (o r : ℤ) → code < 16 → size_of (l.windows head).row ≡ 1 → l.output head code o r ≡ get_or (l.windows head).samples code (pos 0)

@@ -5,12 +5,13 @@ ghost use Rattle.machine_core.specs.Decoder.{miss};
 ghost use Rattle.machine_core.specs.Blocks.{Blocks, head_at, symbol_at, state_at, output_at};
 ghost use Rattle.machine_core.specs.Rules.{tail_cost};
 ghost use Rattle.window_floor.specs.Windows.{floor_from};
-ghost use Rattle.linear_machine.specs.Linear.{Linear, IsLinear, MayFollow};
+ghost use Rattle.window_floor.specs.Clamps.{MayCome};
+ghost use Rattle.linear_machine.specs.Linear.{Linear, IsLinear};
 
 /// Each output of a list of blocks is one that may come after the two before it, which the state before it holds.
 pub fn outputs_follow()
     ensures outcome { (l : Linear) (list : Blocks) (from : State) (i : ℕ) → IsLinear l → symbol_at list i < 16
-        → MayFollow (l.windows (head_at l.decoder list i)) (state_at l.decoder list from i).b (state_at l.decoder list from i).a (output_at l.decoder list from i) }
+        → MayCome (l.windows (head_at l.decoder list i)) (state_at l.decoder list from i).b (state_at l.decoder list from i).a (output_at l.decoder list from i) }
     ensures older { (l : Linear) (list : Blocks) (from : State) (i : ℕ) → IsLinear l → (state_at l.decoder list from (suc i)).b ≡ (state_at l.decoder list from i).a }
 {}
 

@@ -5,6 +5,7 @@ ghost use Rattle.machine_core.specs.Floors.{block_floor, floor_of_blocks, HoldsR
 
 use crate::machine::Machine;
 use crate::state::{HeadRule, Kind};
+use adpcm_nums::MOST_SAMPLES;
 
 /// The rule for the heads of a segment's block: the first block forgets what was played before it (this project's own choice).
 pub fn rule_at(block: u32) -> HeadRule
@@ -82,7 +83,7 @@ pub fn floor_of_blocks<M: Machine>(
     blocks: u32,
 ) -> u64
     requires count { length targets.now ≡ blocks * (M.rules machine.now).decoder.samples }
-    requires few { length targets.now ≤ 262144 }
+    requires few { length targets.now ≤ MOST_SAMPLES }
     requires range { AreSamples targets.now }
     ensures value { result ≡ floor_of_blocks (M.rules machine.now) (must_forget (M.rules machine.now).kind loop_block) targets.now blocks }
     ensures small { result ≤ blocks * ((M.rules machine.now).decoder.samples * 2 ^ 36) }
@@ -106,7 +107,7 @@ pub fn fill_rests<M: Machine>(
     requires places { 0 < length rests.old }
     requires blocks { length rests.old < 2 ^ 32 }
     requires count { length targets.now ≡ (length rests.old - 1) * (M.rules machine.now).decoder.samples }
-    requires few { length targets.now ≤ 262144 }
+    requires few { length targets.now ≤ MOST_SAMPLES }
     requires range { AreSamples targets.now }
     ensures { HoldsRests (M.rules machine.now) (must_forget (M.rules machine.now).kind loop_block) targets.now (length rests.old - 1) rests.new }
 {

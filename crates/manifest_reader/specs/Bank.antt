@@ -10,6 +10,7 @@ use Rattle.loop_fit.specs.declared.rule.Length.{Length}
 use Rattle.loop_fit.specs.declared.rule.Length.TheVariants.{Exact, Unroll}
 use Rattle.loop_fit.specs.declared.rule.Start.{Start}
 use Rattle.loop_fit.specs.declared.rule.Start.TheVariants.{Front, Rotate}
+use Rattle.manifest_reader.specs.declared.effort.Effort.{Effort}
 use Rattle.manifest_reader.specs.declared.fault.ManifestFault.{ManifestFault}
 use Rattle.manifest_reader.specs.declared.fault.ManifestFault.TheVariants.{BadWord}
 use Rattle.manifest_reader.specs.Words.{is_bank}
@@ -53,9 +54,21 @@ block_at table = or_default 256 (number_at 8 1024 4 (codes "block") table)
 unfoldable pub beam_at : Members → Result ℕ ManifestFault
 beam_at table = or_default 8 (number_at 1 64 1 (codes "beam") table)
 
+-- how many lists of codes go on together inside each block
+unfoldable pub paths_at : Members → Result ℕ ManifestFault
+paths_at table = or_default 1 (number_at 1 64 1 (codes "paths") table)
+
 -- how many cells the search may keep for a sample
 unfoldable pub budget_at : Members → Result ℕ ManifestFault
 budget_at table = or_default 100000 (number_at 0 1000000 1 (codes "budget") table)
+
+-- how much is done to find good blocks
+unfoldable pub effort_at : Members → Result Effort ManifestFault
+effort_at table = do
+  beam ← beam_at table
+  paths ← paths_at table
+  budget ← budget_at table
+  Ok (record { beam = beam; paths = paths; budget = budget })
 
 -- how a loop's length is fitted, by its word
 abbrev pub length_word : Option (List ℕ) → Result Length ManifestFault

@@ -13,7 +13,7 @@ use Rattle.manifest_reader.specs.declared.fault.ManifestFault.TheVariants.{TooLo
 use Rattle.manifest_reader.specs.declared.manifest.Manifest.{Manifest}
 use Rattle.manifest_reader.specs.declared.manifest.SampleEntry.{SampleEntry}
 use Rattle.manifest_reader.specs.Keys.{check_keys}
-use Rattle.manifest_reader.specs.Bank.{kind_at, bank_at, base_at, block_at, beam_at, budget_at, length_at, start_at}
+use Rattle.manifest_reader.specs.Bank.{kind_at, bank_at, base_at, block_at, effort_at, length_at, start_at}
 use Rattle.manifest_reader.specs.Sample.{samples_at}
 use Rattle.manifest_reader.specs.Names.{check_names}
 
@@ -27,6 +27,8 @@ pub record Content : Type 0 where
   pub block : ℕ
   -- how many lists of blocks the encoder keeps
   pub beam : ℕ
+  -- how many lists of codes go on together inside each block
+  pub paths : ℕ
   -- how many cells the search may keep for a sample
   pub budget : ℕ
   -- how a loop's length is fitted to blocks
@@ -43,6 +45,7 @@ content_of m = record {
   base = m.base;
   block = m.block;
   beam = m.beam;
+  paths = m.paths;
   budget = m.budget;
   length = m.length;
   start = m.start;
@@ -52,7 +55,7 @@ content_of m = record {
 -- the keys that a manifest may have
 abbrev pub bank_keys : List (List ℕ)
 bank_keys =
-    codes "format" ∷ codes "bank" ∷ codes "base" ∷ codes "block" ∷ codes "beam" ∷ codes "budget" ∷ codes "length" ∷ codes "start" ∷ codes "sample" ∷ []
+    codes "format" ∷ codes "bank" ∷ codes "base" ∷ codes "block" ∷ codes "beam" ∷ codes "paths" ∷ codes "budget" ∷ codes "length" ∷ codes "start" ∷ codes "sample" ∷ []
 
 -- the manifest that a table says, where the manifest itself has the name own; each line has its faults, and the first counts
 unfoldable pub manifest_at : Members → List ℕ → Result Content ManifestFault
@@ -62,13 +65,12 @@ manifest_at table own = do
   bank ← bank_at table
   base ← base_at table
   block ← block_at table
-  beam ← beam_at table
-  budget ← budget_at table
+  effort ← effort_at table
   length ← length_at table
   start ← start_at table
   samples ← samples_at table
   apart ← check_names kind bank samples own
-  Ok (record { kind = kind; bank = bank; base = base; block = block; beam = beam; budget = budget; length = length; start = start; samples = samples })
+  Ok (record { kind = kind; bank = bank; base = base; block = block; beam = effort.beam; paths = effort.paths; budget = effort.budget; length = length; start = start; samples = samples })
 
 -- the table that bytes spell
 unfoldable pub document_of : List ℕ → Result Members ManifestFault

@@ -3,6 +3,7 @@ use Rattle.std.specs.Prelude.{◌≡◌, ℕ, ◌≤◌, ◌%◌, true, false, L
 use Rattle.std.specs.List.{IsDistinct}
 use Rattle.std.specs.Str.{bytes_eq}
 use Rattle.machine_core.specs.declared.state.Kind.{Kind}
+use Rattle.manifest_reader.specs.declared.effort.Effort.{Effort}
 use Rattle.manifest_reader.specs.declared.manifest.SampleEntry.{SampleEntry}
 use Rattle.manifest_reader.specs.Words.{is_bank, is_name, is_file}
 use Rattle.manifest_reader.specs.Keys.{is_among}
@@ -14,6 +15,11 @@ pub record IsWithin (low high step n : ℕ) : Type 0 where
   pub least : low ≤ n
   pub most : n ≤ high
   pub multiple : n % step ≡ 0
+
+-- an effort whose search can begin
+pub record IsEffort (e : Effort) : Type 0 where
+  pub beam : IsWithin 1 64 1 e.beam
+  pub paths : IsWithin 1 64 1 e.paths
 
 -- a sample whose name, file and channel are in their ranges
 pub record IsEntry (s : SampleEntry) : Type 0 where
@@ -29,6 +35,7 @@ pub record InRanges (m : Content) : Type 0 where
   pub base : IsWithin 0 65280 256 m.base
   pub block : IsWithin 8 1024 4 m.block
   pub beam : IsWithin 1 64 1 m.beam
+  pub paths : IsWithin 1 64 1 m.paths
   pub budget : IsWithin 0 1000000 1 m.budget
   pub some : 1 ≤ length m.samples
   pub few : length m.samples ≤ 64

@@ -3,7 +3,7 @@ ghost use Rattle.toml.specs.View.{table_view};
 ghost use Rattle.manifest_reader.specs.Words.{is_bank};
 ghost use Rattle.manifest_reader.specs.Ranges.{IsWithin};
 ghost use Rattle.adpcm_nums.specs.Outcome.{Gives};
-ghost use Rattle.manifest_reader.specs.Bank.{kind_at, bank_at, base_at, block_at, beam_at, budget_at, length_at, start_at};
+ghost use Rattle.manifest_reader.specs.Bank.{kind_at, bank_at, base_at, block_at, beam_at, paths_at, budget_at, length_at, start_at};
 
 use crate::fault::{ManifestFault, bad_word};
 use crate::keys::{needed_text, number_at, text_at};
@@ -65,6 +65,15 @@ pub(crate) fn beam_at(alloc: Global, table: &Table) -> Result<u32, ManifestFault
     ensures value { Gives ManifestFault.NoMemory (λ n. n) result (beam_at (table_view table.now)) }
 {
     Ok(number_at(alloc, table, "beam", 1, 64, 1)?.unwrap_or(8))
+}
+
+/// How many lists of codes go on together inside each block.
+#[tactic(auto, unfolding(crate::specs::Bank::paths_at))]
+pub(crate) fn paths_at(alloc: Global, table: &Table) -> Result<u32, ManifestFault>
+    ensures range { IfOk result (IsWithin 1 64 1) }
+    ensures value { Gives ManifestFault.NoMemory (λ n. n) result (paths_at (table_view table.now)) }
+{
+    Ok(number_at(alloc, table, "paths", 1, 64, 1)?.unwrap_or(1))
 }
 
 /// How many cells the search may keep for a sample.

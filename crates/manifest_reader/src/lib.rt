@@ -2,6 +2,7 @@
 #![tactic(auto)]
 
 mod bank;
+mod effort;
 mod fault;
 mod keys;
 mod manifest;
@@ -11,6 +12,7 @@ mod sample;
 mod stored;
 mod words;
 
+pub use effort::Effort;
 pub use fault::ManifestFault;
 pub use manifest::{Manifest, SampleEntry};
 pub use reader::read_manifest;

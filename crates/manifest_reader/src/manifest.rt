@@ -1,3 +1,6 @@
+ghost use Rattle.std.specs.Prelude.{◌≡◌};
+
+use crate::effort::Effort;
 use adpcm_nums::Text;
 use loop_fit::{Length, Start};
 use machine_core::Kind;
@@ -28,6 +31,8 @@ pub struct Manifest {
     pub block: u32,
     /// How many lists of blocks the encoder keeps: 1 to 64.
     pub beam: u32,
+    /// How many lists of codes go on together inside each block: 1 to 64.
+    pub paths: u32,
     /// How many cells the search may keep for a sample: up to 1,000,000.
     pub budget: u32,
     /// How a loop's length is fitted to blocks.
@@ -36,4 +41,17 @@ pub struct Manifest {
     pub start: Start,
     /// The samples in order: 1 to 64.
     pub samples: Vec<SampleEntry>,
+}
+
+impl Manifest {
+    /// How much is done for each sample.
+    pub fn effort(&self) -> Effort
+        ensures { result ≡ record { beam = self.now.beam; paths = self.now.paths; budget = self.now.budget } }
+    {
+        Effort {
+            beam: self.beam,
+            paths: self.paths,
+            budget: self.budget,
+        }
+    }
 }

@@ -3,9 +3,11 @@ ghost use Rattle.manifest_reader.specs.Ranges.{InRanges, AreDistinct, StoresOnce
 ghost use Rattle.manifest_reader.specs.Stored.{stored_names};
 ghost use Rattle.toml.specs.View.{table_view};
 ghost use Rattle.adpcm_nums.specs.Outcome.{Gives};
-ghost use Rattle.manifest_reader.specs.Meaning.{content_of, manifest_at, document_of, manifest_of};
+ghost use Rattle.manifest_reader.specs.Keys.{check_keys};
+ghost use Rattle.manifest_reader.specs.Meaning.{bank_keys, content_of, manifest_at, document_of, manifest_of};
 
-use crate::bank::{bank_at, base_at, beam_at, block_at, budget_at, kind_at, length_at, start_at};
+use crate::bank::{bank_at, base_at, block_at, kind_at, length_at, start_at};
+use crate::effort::effort_at;
 use crate::fault::ManifestFault;
 use crate::keys::check_keys;
 use crate::manifest::Manifest;
@@ -13,6 +15,20 @@ use crate::names::check_names;
 use crate::sample::samples_at;
 use std::alloc::Global;
 use toml::Table;
+
+/// Refuses the first key, in byte order, that a manifest has not.
+fn check_bank_keys(alloc: Global, table: &Table) -> Result<(), ManifestFault>
+    ensures { Gives ManifestFault.NoMemory (λ u. u) result (check_keys bank_keys (table_view table.now)) }
+{
+    check_keys(
+        alloc,
+        table,
+        &[
+            "format", "bank", "base", "block", "beam", "paths", "budget", "length", "start",
+            "sample",
+        ],
+    )
+}
 
 #[tactic(auto, unfolding(crate::specs::Meaning::manifest_at))]
 fn manifest_at(alloc: Global, table: &Table, own: &str) -> Result<Manifest, ManifestFault>
@@ -22,19 +38,12 @@ fn manifest_at(alloc: Global, table: &Table, own: &str) -> Result<Manifest, Mani
     ensures apart { IfOk result (λ m. IsApart (stored_names m.kind m.bank m.samples.items) m.samples.items own.now) }
     ensures value { Gives ManifestFault.NoMemory content_of result (manifest_at (table_view table.now) own.now) }
 {
-    check_keys(
-        alloc,
-        table,
-        &[
-            "format", "bank", "base", "block", "beam", "budget", "length", "start", "sample",
-        ],
-    )?;
+    check_bank_keys(alloc, table)?;
     let kind = kind_at(alloc, table)?;
     let bank = bank_at(alloc, table)?;
     let base = base_at(alloc, table)?;
     let block = block_at(alloc, table)?;
-    let beam = beam_at(alloc, table)?;
-    let budget = budget_at(alloc, table)?;
+    let effort = effort_at(alloc, table)?;
     let length = length_at(alloc, table)?;
     let start = start_at(alloc, table)?;
     let samples = samples_at(alloc, table)?;
@@ -44,8 +53,9 @@ fn manifest_at(alloc: Global, table: &Table, own: &str) -> Result<Manifest, Mani
         bank,
         base,
         block,
-        beam,
-        budget,
+        beam: effort.beam,
+        paths: effort.paths,
+        budget: effort.budget,
         length,
         start,
         samples,

@@ -1,4 +1,6 @@
 ghost use Rattle.std.proofs.Common.{refl};
+ghost use Rattle.std.specs.Prelude.{◌≡◌};
+ghost use Rattle.spu_machine.specs.Spu.{is_output};
 ghost use Rattle.spu_machine.specs.SpuRules.{spu_rules};
 ghost use Rattle.spu_machine.specs.Laws.{spu_is_machine};
 ghost use Rattle.spu_machine.specs.Floors.{spu_linear};
@@ -109,11 +111,22 @@ impl Machine for Spu {
     ghost boxed = { λ _. spu_is_boxed };
 }
 
+/// Whether a number has 16 bits, signed.
+fn has_16_bits(y: i32) -> bool
+    ensures { result ≡ is_output y }
+{
+    -32768 <= y && y <= 32767
+}
+
 impl LinearMachine for Spu {
     ghost linear = { λ _. spu_linear };
 
     fn windows(&self, head: u32) -> BlockWindows {
         windows(head)
+    }
+
+    fn is_state(&self, at: State) -> bool {
+        has_16_bits(at.a) && has_16_bits(at.b)
     }
 
     ghost is_linear = { λ _. (spu_is_linear, refl) };

@@ -9,13 +9,11 @@ use Rattle.machine_core.specs.Blocks.{Blocks, IsInRange, head_at, symbol_at, sta
 use Rattle.machine_core.specs.Sums.{cost_at}
 use Rattle.machine_core.proofs.Places.{block-of, place-of, block-ends}
 use Rattle.linear_machine.specs.Linear.{Linear, IsLinear}
-use Rattle.linear_machine.proofs.Outputs.{output-stays}
+use Rattle.linear_machine.proofs.Outputs.{output-follows, states-fit, output-stays}
 use Rattle.window_floor.specs.Windows.{Windows}
-use Rattle.clamp_machine.specs.Clamping.{IsClamping}
-use Rattle.block_bounds.specs.Clamps.{MayCome}
+use Rattle.window_floor.specs.Clamps.{MayCome}
 use Rattle.block_bounds.specs.Outputs.{Outputs, ends, goes, weight_of}
 use Rattle.strong_bound.specs.Counted.{own_count, AreTargets}
-use Rattle.strong_bound.proofs.Clampings.{output-comes, states-fit}
 use Rattle.strong_bound.proofs.Counts.{count-more, count-none}
 
 -- samples from sample i on are of a block with this head and these targets
@@ -47,23 +45,23 @@ goes-as b leaving tx ts tr to r o o' y cost c all sr so may older outputs paid s
     (goes tx ts tr to r o y c sr so may (subst (λ (z : ℤ). Outputs b leaving ts to tx z y c) older outputs))
 
 -- the outputs from sample i on, to the end of these targets
-pub outputs-from : (l : Linear) → IsLinear l → IsClamping l → (list : Blocks) (targets : List ℤ) (leaving : Bool) (head : ℕ) (ts : List ℤ) (i : ℕ) (tr to : ℤ) → AreOf l list targets head i ts
+pub outputs-from : (l : Linear) → IsLinear l → (list : Blocks) (targets : List ℤ) (leaving : Bool) (head : ℕ) (ts : List ℤ) (i : ℕ) (tr to : ℤ) → AreOf l list targets head i ts
     → Outputs (l.windows head) leaving ts tr to (state_at l.decoder list start i).b (state_at l.decoder list start i).a (own_count leaving (cost_at l.decoder list targets) i (length ts))
-outputs-from l is clamps list targets leaving head [] i tr to are =
+outputs-from l is list targets leaving head [] i tr to are =
     let at = state_at l.decoder list start i in
     subst (Outputs (l.windows head) leaving [] tr to at.b at.a) (count-none leaving (cost_at l.decoder list targets) i) (ends tr to at.b at.a)
-outputs-from l is clamps list targets leaving head (tx ∷ ts) i tr to are =
+outputs-from l is list targets leaving head (tx ∷ ts) i tr to are =
     let d = l.decoder in
     let at = state_at d list start i in
     let here : i + 0 ≡ i = omega arith in
     let code : symbol_at list i < 16 = subst (λ (z : ℕ). symbol_at list z < 16) here (are.codes 0 (omega arith)) in
     let same-head : head_at d list i ≡ head = subst (λ (z : ℕ). head_at d list z ≡ head) here (are.heads 0 (omega arith)) in
     let target : tx ≡ get_or targets i (pos 0) = are.same 0 (omega arith) ∙ ap (λ (z : ℕ). get_or targets z (pos 0)) here in
-    let may = subst (λ (h : ℕ). MayCome (l.windows h) at.b at.a (output_at d list start i)) same-head (output-comes l is clamps list i code) in
-    let fit = states-fit l is clamps list i in
+    let may = subst (λ (h : ℕ). MayCome (l.windows h) at.b at.a (output_at d list start i)) same-head (output-follows l is list start i code) in
+    let fit = states-fit l is list i in
     goes-as (l.windows head) leaving tx ts tr to at.b at.a (state_at d list start (suc i)).b (output_at d list start i) (cost_at d list targets i) _ _ fit.0 fit.1 may
     (output-stays l is list start i)
-    (outputs-from l is clamps list targets leaving head ts (suc i) to tx (of-rest l list targets head i tx ts are))
+    (outputs-from l is list targets leaving head ts (suc i) to tx (of-rest l list targets head i tx ts are))
     (cost-is l is list targets head i tx target)
     (count-more leaving (cost_at d list targets) i (length ts))
 
@@ -85,14 +83,14 @@ of-block l is list targets xs blocks b fits below are =
     }
 
 -- the outputs of block b of a list, at what its window counts of them
-pub block-outputs : (l : Linear) → IsLinear l → IsClamping l → (list : Blocks) (targets xs : List ℤ) (leaving : Bool) (blocks b : ℕ) → IsInRange l.decoder blocks list → b < blocks → AreTargets l.decoder.samples targets b xs
+pub block-outputs : (l : Linear) → IsLinear l → (list : Blocks) (targets xs : List ℤ) (leaving : Bool) (blocks b : ℕ) → IsInRange l.decoder blocks list → b < blocks → AreTargets l.decoder.samples targets b xs
     → Outputs (l.windows (get_or list.heads b 0)) leaving (drop 2 xs) (get_or xs 0 (pos 0)) (get_or xs 1 (pos 0))
     (state_at l.decoder list start (b * l.decoder.samples)).b (state_at l.decoder list start (b * l.decoder.samples)).a
     (own_count leaving (cost_at l.decoder list targets) (b * l.decoder.samples) l.decoder.samples)
-block-outputs l is clamps list targets xs leaving blocks b fits below are =
+block-outputs l is list targets xs leaving blocks b fits below are =
     let d = l.decoder in
     let at = state_at d list start (b * d.samples) in
     let size : length (drop 2 xs) ≡ d.samples = omega (arith, length-drop 2 xs, are.count) in
     subst (Outputs (l.windows (get_or list.heads b 0)) leaving (drop 2 xs) (get_or xs 0 (pos 0)) (get_or xs 1 (pos 0)) at.b at.a)
     (ap (own_count leaving (cost_at d list targets) (b * d.samples)) size)
-    (outputs-from l is clamps list targets leaving (get_or list.heads b 0) (drop 2 xs) (b * d.samples) (get_or xs 0 (pos 0)) (get_or xs 1 (pos 0)) (of-block l is list targets xs blocks b fits below are))
+    (outputs-from l is list targets leaving (get_or list.heads b 0) (drop 2 xs) (b * d.samples) (get_or xs 0 (pos 0)) (get_or xs 1 (pos 0)) (of-block l is list targets xs blocks b fits below are))

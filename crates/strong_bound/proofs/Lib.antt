@@ -1,5 +1,4 @@
 pub mod Counts
-pub mod Clampings
 pub mod BlockOutputs
 pub mod BlockBounds
 pub mod Unders

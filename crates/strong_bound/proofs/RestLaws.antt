@@ -7,6 +7,7 @@ use Rattle.machine_core.specs.declared.state.State.{State}
 use Rattle.machine_core.specs.Decoder.{Decoder, cost_of, miss}
 use Rattle.machine_core.specs.Rules.{tail_cost}
 use Rattle.window_floor.specs.Windows.{Windows, IsSound, floor_from}
+use Rattle.window_floor.specs.Clamps.{MayCome, over, under, inside}
 use Rattle.linear_machine.specs.Linear.{Linear, IsLinear}
 use Rattle.linear_machine.specs.Laws.FloorTruth.{floor-holds}
 use Rattle.strong_bound.specs.Quiet.{count_from, IsUnderSymbols, IsUnderRest, HoldsRests, shortened}
@@ -21,6 +22,12 @@ shorter l m = record { decoder = record l.decoder { samples = m }; windows = λ 
 sound-shorter : (b : Windows) (m : ℕ) → IsSound b → IsSound (shortened b m)
 sound-shorter b m s = record { scale = s.scale; normed = s.normed; clamped = s.clamped; samples_fit = s.samples_fit }
 
+-- an output may come after the same ones
+comes-shorter : (b : Windows) (m : ℕ) (r o y : ℤ) → MayCome b r o y → MayCome (shortened b m) r o y
+comes-shorter b m r o y (over raw is above e) = over raw is above e
+comes-shorter b m r o y (under raw is below e) = under raw is below e
+comes-shorter b m r o y (inside raw k is wrap e) = inside raw k is wrap e
+
 -- it is as linear as the whole one
 is-shorter : (l : Linear) (m : ℕ) → IsLinear l → m ≤ l.decoder.samples → IsLinear (shorter l m)
 is-shorter l m is few = record {
@@ -29,7 +36,8 @@ is-shorter l m is few = record {
   scale = is.scale;
   codes = λ p h. is.codes p (omega (arith, h, few));
   steps = is.steps;
-  outcome = is.outcome;
+  range = is.range;
+  outcome = λ head code o r within. comes-shorter (l.windows head) m r o (l.output head code o r) (is.outcome head code o r within);
   free = is.free;
 }
 

@@ -2,6 +2,7 @@
 use Rattle.std.proofs.Common.{◌≡◌, ℕ, zero, suc, ◌+◌, ◌-◌, ◌*◌, ◌<◌, ◌≤◌, arith, refl, ap, sym, subst, Bool, true, false, List}
 use Rattle.std.proofs.lemmas.Bool.Decides.{nat_tests}
 use Rattle.std.specs.Prelude.{ℤ}
+use Rattle.adpcm_nums.specs.declared.limits.TheConstants.{MOST_SAMPLES}
 use Rattle.machine_core.specs.Decoder.{Decoder}
 use Rattle.machine_core.specs.Blocks.{Blocks}
 use Rattle.machine_core.specs.Sums.{cost_at, sum_of}
@@ -62,6 +63,6 @@ half-below d list targets blocks at sum half some e h k =
     omega (arith, all, same, h, k)
 
 -- there are few blocks
-pub few-blocks : (count blocks n : ℕ) → 2 ≤ n → count ≡ blocks * n → count ≤ 262144 → blocks ≤ 262144
+pub few-blocks : (count blocks n : ℕ) → 2 ≤ n → count ≡ blocks * n → count ≤ MOST_SAMPLES → blocks ≤ MOST_SAMPLES
 few-blocks count blocks n h e k =
     let p : n ≡ n - 1 + 1 = omega (arith, h) in let q : blocks * n ≡ blocks * (n - 1 + 1) = ap (λ z. blocks * z) p in let r : blocks * (n - 1 + 1) ≡ blocks * (n - 1) + blocks = omega arith in omega (arith, q, r, e, k)

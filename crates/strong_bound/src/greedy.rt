@@ -1,7 +1,6 @@
 ghost use Rattle.std.specs.Prelude.{◌≡◌, ◌≤◌, ◌<◌, ◌+◌, ◌*◌, IsTrue, length};
 ghost use Rattle.adpcm_nums.specs.Sample.{IsSample, AreSamples};
 
-use clamp_machine::ClampMachine;
 use linear_machine::LinearMachine;
 use machine_core::{HeadRule, State, rule_for};
 
@@ -77,7 +76,7 @@ pub(crate) fn block_lead<M: LinearMachine>(
 }
 
 /// The errors of the two outputs that a state holds.
-fn entering_cost<M: ClampMachine>(machine: &M, from: State, older: i32, last: i32) -> u64
+fn entering_cost<M: LinearMachine>(machine: &M, from: State, older: i32, last: i32) -> u64
     requires from { IsTrue ((M.rules machine.now).decoder.is_state from) }
     requires older { IsSample older }
     requires last { IsSample last }
@@ -95,7 +94,7 @@ fn entering_cost<M: ClampMachine>(machine: &M, from: State, older: i32, last: i3
 }
 
 /// What a list counts in a block's window, at most, that comes to the block in a state and goes on at this cost.
-pub(crate) fn window_cost<M: ClampMachine>(
+pub(crate) fn window_cost<M: LinearMachine>(
     machine: &M,
     targets: &[i32],
     block: u32,

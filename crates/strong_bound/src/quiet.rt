@@ -5,7 +5,7 @@ ghost use Rattle.strong_bound.specs.Quiet.{twice_of, IsUnderStates};
 use crate::rests::fill_rests;
 use crate::states::{Entry, under_states};
 use crate::suffixes::raise_rests;
-use clamp_machine::ClampMachine;
+use linear_machine::LinearMachine;
 use machine_core::{HeadRule, State};
 
 /// What a list may count in a quiet window, at most.
@@ -21,7 +21,7 @@ fn twice_of(samples: u32, leaving: bool) -> u32
 }
 
 /// A bound, at most `top`, under what any codes count under a head, from whatever state: that from the states near `aim`.
-fn under_head<M: ClampMachine>(
+fn under_head<M: LinearMachine>(
     machine: &M,
     head: u32,
     aim: State,
@@ -65,7 +65,7 @@ fn under_head<M: ClampMachine>(
 }
 
 /// The same under each head that the rule allows, with room for the tables lent.
-fn under_heads<M: ClampMachine>(
+fn under_heads<M: LinearMachine>(
     machine: &M,
     rule: HeadRule,
     aim: State,
@@ -106,7 +106,7 @@ fn under_heads<M: ClampMachine>(
 /// is gone on from with the decoder's own steps.
 ///
 /// `top` may be any number, best what a list is known to count. A window that is not quiet has the bound 0.
-pub(crate) fn quiet_bound<M: ClampMachine>(
+pub(crate) fn quiet_bound<M: LinearMachine>(
     machine: &M,
     rule: HeadRule,
     aim: State,

@@ -6,7 +6,7 @@ ghost use Rattle.strong_bound.specs.Quiet.{tried, far_cost, IsUnderSymbols, IsUn
 
 use crate::codes::least_from;
 use adpcm_nums::{floor_div, multiple};
-use clamp_machine::ClampMachine;
+use linear_machine::LinearMachine;
 use machine_core::State;
 
 /// How codes are gone on with from a state.
@@ -57,7 +57,7 @@ fn corner_of(scale: i64, aim: State) -> State
 
 /// A bound, at most `top`, under what any codes count from a state, where it is one, with the error of its last output,
 /// on top of what was counted before.
-fn under_state<M: ClampMachine>(
+fn under_state<M: LinearMachine>(
     machine: &M,
     head: u32,
     targets: &[i32],
@@ -103,7 +103,7 @@ fn under_state<M: ClampMachine>(
 }
 
 /// The same from each of the last outputs around its target, behind one older output. `first` is the first of these states.
-fn under_last<M: ClampMachine>(
+fn under_last<M: LinearMachine>(
     machine: &M,
     head: u32,
     targets: &[i32],
@@ -145,7 +145,7 @@ fn under_last<M: ClampMachine>(
 
 /// A bound, at most `top`, under what any codes count from whatever state, with the errors of its two outputs. States
 /// further off come to `top` by their errors and the floors alone.
-pub(crate) fn under_states<M: ClampMachine>(
+pub(crate) fn under_states<M: LinearMachine>(
     machine: &M,
     head: u32,
     targets: &[i32],

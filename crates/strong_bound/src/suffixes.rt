@@ -3,7 +3,7 @@ ghost use Rattle.adpcm_nums.specs.Sample.{AreSamples};
 ghost use Rattle.strong_bound.specs.Quiet.{times_at, IsUnderRest, HoldsRests};
 
 use crate::states::{Entry, under_states};
-use clamp_machine::ClampMachine;
+use linear_machine::LinearMachine;
 use machine_core::State;
 
 /// How often a place is counted where the first `twice` are counted twice.
@@ -42,7 +42,7 @@ fn entry_behind(targets: &[i32], twice: u32, place: u32) -> Entry
 
 /// A bound under what any codes count from a place on, whatever the state: no less than what is known of it, and found from
 /// the states whose two outputs stand at this place and the next, as far as `top`.
-fn rest_from<M: ClampMachine>(
+fn rest_from<M: LinearMachine>(
     machine: &M,
     head: u32,
     targets: &[i32],
@@ -78,7 +78,7 @@ fn rest_from<M: ClampMachine>(
 }
 
 /// Raises a table of such bounds from the block's end on: each place is gone on from with what is known of those behind it.
-pub(crate) fn raise_rests<M: ClampMachine>(
+pub(crate) fn raise_rests<M: LinearMachine>(
     machine: &M,
     head: u32,
     targets: &[i32],

@@ -5,7 +5,8 @@ ghost use Rattle.machine_core.specs.Sums.{sum_of};
 
 use crate::greedy::{block_lead, window_cost};
 use crate::window::window_bound;
-use clamp_machine::ClampMachine;
+use adpcm_nums::MOST_SAMPLES;
+use linear_machine::LinearMachine;
 use machine_core::State;
 
 /// A bound near the error of a sample of so many blocks with this loop block, or of a segment of one, in squared 16-bit
@@ -13,7 +14,7 @@ use machine_core::State;
 ///
 /// No legal list of blocks has a lower error. The search under a head goes on with at most `nodes` rows from each place of
 /// a block.
-pub fn strong_bound<M: ClampMachine>(
+pub fn strong_bound<M: LinearMachine>(
     machine: &M,
     loop_block: Option<u32>,
     targets: &[i32],
@@ -23,7 +24,7 @@ pub fn strong_bound<M: ClampMachine>(
     requires some { 2 ≤ (M.rules machine.now).decoder.samples }
     requires few_samples { (M.rules machine.now).decoder.samples ≤ 28 }
     requires count { length targets.now ≡ blocks * (M.rules machine.now).decoder.samples }
-    requires few { length targets.now ≤ 262144 }
+    requires few { length targets.now ≤ MOST_SAMPLES }
     requires range { AreSamples targets.now }
     ensures bound { (list : Blocks) → IsLegal (M.rules machine.now).decoder blocks (must_forget (M.rules machine.now).kind loop_block) list
         → result ≤ sum_of (M.rules machine.now).decoder list targets.now blocks }

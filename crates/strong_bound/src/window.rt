@@ -6,7 +6,7 @@ ghost use Rattle.strong_bound.specs.Counted.{counted, enters, is_left};
 
 use crate::heads::{Counting, block_bound_of};
 use crate::quiet::quiet_bound;
-use clamp_machine::ClampMachine;
+use linear_machine::LinearMachine;
 use machine_core::{HeadRule, State, rule_for};
 
 /// No window counts so much: at most 58 times 2^32.
@@ -28,7 +28,7 @@ fn first_targets(targets: &[i32]) -> [i32; 30]
 }
 
 /// A bound under what the window of the first block counts.
-fn first_bound<M: ClampMachine>(
+fn first_bound<M: LinearMachine>(
     machine: &M,
     rule: HeadRule,
     near: u32,
@@ -74,7 +74,7 @@ fn leaving(blocks: u32, block: u32) -> bool
 }
 
 /// A bound under what the window of a later block counts, found by the search of rows.
-fn rows_bound<M: ClampMachine>(
+fn rows_bound<M: LinearMachine>(
     machine: &M,
     rule: HeadRule,
     near: u32,
@@ -106,7 +106,7 @@ fn rows_bound<M: ClampMachine>(
 
 /// A bound under what the window of a later block counts, found from each state before the block where the window is quiet.
 /// Before the second block the states are not counted, so none is left out, and they are too many.
-fn states_bound<M: ClampMachine>(
+fn states_bound<M: LinearMachine>(
     machine: &M,
     rule: HeadRule,
     top: u64,
@@ -140,7 +140,7 @@ fn states_bound<M: ClampMachine>(
 }
 
 /// A bound under what the window of a later block counts: the greater of both.
-fn later_bound<M: ClampMachine>(
+fn later_bound<M: LinearMachine>(
     machine: &M,
     rule: HeadRule,
     near: u32,
@@ -167,7 +167,7 @@ fn later_bound<M: ClampMachine>(
 
 /// A bound under what the window of a block counts of every legal list. The head `near` is tried first; `top` is best what
 /// a list is known to count there.
-pub(crate) fn window_bound<M: ClampMachine>(
+pub(crate) fn window_bound<M: LinearMachine>(
     machine: &M,
     loop_block: Option<u32>,
     near: u32,

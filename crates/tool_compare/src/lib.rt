@@ -4,8 +4,6 @@
 
 mod bound;
 mod bound_bank;
-#[cfg(test)]
-mod bound_tests;
 mod check;
 mod check_bank;
 mod fetch_proven;

@@ -8,7 +8,8 @@ use Rattle.manifest_reader.specs.Meaning.{Content}
 use Rattle.manifest_reader.specs.Stored.{stored_names}
 use Rattle.bank_kinds.specs.Kinds.{codec_for}
 use Rattle.bank_compile.specs.declared.sample.SampleOut.{SampleOut}
-use Rattle.bank_compile.specs.Sample.{Effort, IsCompiled, beams_error}
+use Rattle.manifest_reader.specs.declared.effort.Effort.{Effort}
+use Rattle.bank_compile.specs.Sample.{IsCompiled, beams_error}
 use Rattle.bank_compile.specs.Bank.{bank_of}
 use Rattle.bank_compile.specs.Told.{report_text}
 use Rattle.command_plan.specs.Plan.{names_in, all_stored}
@@ -34,7 +35,7 @@ compile_course files manifest = as_reading (manifest_read files manifest >>= ban
 
 -- how samples are searched, as the manifest says
 abbrev pub effort_of : Content → Effort
-effort_of m = record { width = m.beam; budget = m.budget }
+effort_of m = record { beam = m.beam; paths = m.paths; budget = m.budget }
 
 -- a source with what was made of it
 pub record IsMadeOf (m : Content) (source : Source) (out : SampleOut) : Type 0 where

@@ -17,7 +17,8 @@ use Rattle.report_text.specs.declared.report.SampleReport.{SampleReport}
 use Rattle.bank_kinds.specs.Kinds.{codec_for}
 use Rattle.bank_kinds.specs.Bound.{IsBound}
 use Rattle.bank_compile.specs.declared.sample.SampleOut.{SampleOut}
-use Rattle.bank_compile.specs.Sample.{Effort, IsCompiled, IsReached}
+use Rattle.manifest_reader.specs.declared.effort.Effort.{Effort}
+use Rattle.bank_compile.specs.Sample.{IsCompiled, IsReached}
 use Rattle.bank_compile.specs.Told.{report_text}
 use Rattle.command_faults.specs.declared.status.Status.{Status}
 use Rattle.command_faults.specs.declared.status.Status.TheVariants.{Done, Memory}
@@ -31,7 +32,7 @@ made_rule kind = record { kind = kind; block = (codec_for kind 256).rules.decode
 
 -- how it is searched
 abbrev pub made_effort : Effort
-made_effort = record { width = 4; budget = 20000 }
+made_effort = record { beam = 4; paths = 1; budget = 20000 }
 
 -- how many blocks that takes, whatever the number
 abbrev pub made_blocks : Kind → ℕ

@@ -23,6 +23,7 @@ use tool_files::Source;
 fn compile_source(alloc: Global, manifest: &Manifest, source: Source) -> Result<SampleOut, NoMemory>
     requires block { IsTrue (is_align manifest.now.block) }
     requires beam { IsWithin 1 64 1 manifest.now.beam }
+    requires paths { IsWithin 1 64 1 manifest.now.paths }
     requires ready { IsReady manifest.now.kind manifest.now.block source }
     ensures made { IfOk result (IsMadeOf (content_of manifest.now) source) }
     ensures out { IfOk result (IsOut (codec_for manifest.now.kind manifest.now.block)) }
@@ -40,6 +41,7 @@ fn compile_all(
 ) -> Result<Vec<SampleOut>, NoMemory>
     requires block { IsTrue (is_align manifest.now.block) }
     requires beam { IsWithin 1 64 1 manifest.now.beam }
+    requires paths { IsWithin 1 64 1 manifest.now.paths }
     requires ready { All (IsReady manifest.now.kind manifest.now.block) sources.items }
     ensures count { IfOk result (λ outs. length outs.items ≡ length sources.items) }
     ensures made { IfOk result (λ outs. AllZip (IsMadeOf (content_of manifest.now)) sources.items outs.items) }
@@ -71,6 +73,7 @@ pub(crate) fn form_bank(
     requires ready { All (IsReady manifest.now.kind manifest.now.block) sources.items }
     requires block { IsTrue (is_align manifest.now.block) }
     requires beam { IsWithin 1 64 1 manifest.now.beam }
+    requires paths { IsWithin 1 64 1 manifest.now.paths }
     requires named { map (λ (s : Source). s.name) sources.items ≡ map (λ (e : SampleEntry). e.name) manifest.now.samples.items }
     requires once { StoresOnce manifest.now.kind manifest.now.bank manifest.now.samples.items }
     ensures { IfOk result (λ r. IsBank (content_of manifest.now) sources.items r.0.items r.1) }

@@ -35,6 +35,7 @@ fn made_manifest(alloc: Global, kind: Kind) -> Result<Manifest, NoMemory>
     ensures kind { IfOk result (λ m. m.kind ≡ kind) }
     ensures block { IfOk result (λ m. m.block ≡ 256) }
     ensures beam { IfOk result (λ m. m.beam ≡ 4) }
+    ensures paths { IfOk result (λ m. m.paths ≡ 1) }
     ensures budget { IfOk result (λ m. m.budget ≡ 20000) }
 {
     Ok(Manifest {
@@ -43,6 +44,7 @@ fn made_manifest(alloc: Global, kind: Kind) -> Result<Manifest, NoMemory>
         base: 0,
         block: 256,
         beam: 4,
+        paths: 1,
         budget: 20_000,
         length: Length::Unroll,
         start: Start::Front,

@@ -16,3 +16,4 @@ pub mod PlaceLaws
 pub mod WindowSizes
 pub mod FloorTable
 pub mod NibbleLevels
+pub mod Outcomes

@@ -6,4 +6,5 @@ pub mod Outcome
 pub mod Cut
 pub mod Windows
 pub mod Following
+pub mod Clamps
 pub mod Numbers

@@ -15,7 +15,8 @@ use Rattle.brr_machine.specs.Brr.{brr, sample_of, shift_of, filter_of}
 use Rattle.brr_machine.specs.Rows.{brr_row}
 use Rattle.brr_machine.specs.Floors.{brr_windows, brr_linear, brr_floor}
 use Rattle.brr_machine.specs.Laws.Forgetting.{brr-steps}
-use Rattle.brr_machine.specs.Laws.Outcomes.{output-follows, output-free}
+use Rattle.brr_machine.specs.Laws.Outcomes.{output-comes, output-free}
+use Rattle.brr_machine.specs.Laws.Ranges.{output-fits}
 use Rattle.brr_machine.specs.Laws.Samples.{sample_low, sample_high}
 
 -- the norms are the sums of the squares
@@ -61,7 +62,8 @@ brr_is_linear = record {
   scale = λ head. twice (filter_of head);
   codes = λ p within. refl;
   steps = brr-steps;
-  outcome = output-follows;
+  range = λ head code o r. (let y = output-fits head code o r in record { low = omega (arith, ints, y.low); high = omega (arith, ints, y.high) });
+  outcome = output-comes;
   free = λ head code o r h size. output-free head code o r h (free-filter (filter_of head) size) ∙ sym (sample-at (sample_of (shift_of head)) code (pos 0) h);
 }
 

@@ -26,7 +26,7 @@ wrapped x =
     let low = remainder-low (x +ℤ pos 16384) in
     let high = remainder-high (x +ℤ pos 16384) in record { low = omega (arith, ints); high = omega (arith, ints) }
 
-output-fits : (head code : ℕ) (o r : ℤ) → IsOutput (output_of head code o r)
+pub output-fits : (head code : ℕ) (o r : ℤ) → IsOutput (output_of head code o r)
 unfolding output_of
 output-fits head code o r = wrapped (clamp16_of (raw_of head code o r))
 

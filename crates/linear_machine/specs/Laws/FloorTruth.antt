@@ -13,6 +13,7 @@ use Rattle.window_floor.specs.Floor.{output_cost}
 use Rattle.window_floor.specs.Windows.{target_at, floor_from}
 use Rattle.window_floor.specs.Following.{Follow}
 use Rattle.window_floor.proofs.WindowLaws.{floor-below, follow-by}
+use Rattle.window_floor.proofs.Outcomes.{outcome-of}
 use Rattle.window_floor.proofs.WindowSizes.{floor-fits}
 use Rattle.linear_machine.specs.Linear.{Linear, IsLinear}
 
@@ -30,7 +31,7 @@ follow l is head p symbol at fits =
     let d = l.decoder in
     follow-by (l.windows head) (l.output head) symbol p (outputs d head symbol p at) (λ q. (path d head symbol p at q).a) (λ q. (path d head symbol p at q).b)
     (λ size c o r within. record { code = c; within = within; is = is.free head c o r within size })
-    (λ size c o r within. is.outcome head c o r within)
+    (λ size c o r within. outcome-of (l.windows head) r o (l.output head c o r) (is.outcome head c o r within))
     (λ q within. fits q (omega (arith, within, is.places head)))
     (output-next d l.output (keeps l is) head symbol p at) (λ q after. refl) (output-third d l.output (keeps l is) head symbol p at)
 

@@ -1,5 +1,5 @@
 -- The decoder of SPU-ADPCM is a linear decoder.
-use Rattle.std.proofs.Common.{◌≡◌, ℕ, zero, suc, ◌-◌, ◌<◌, arith, refl, sym, ◌∙◌, inl, lit<}
+use Rattle.std.proofs.Common.{◌≡◌, ℕ, zero, suc, arith, refl, sym, ◌∙◌, inl, lit<}
 use Rattle.std.specs.Prelude.{pos}
 use Rattle.std.proofs.lemmas.Int.{ints}
 use Rattle.window_floor.specs.Row.{IsNormed, size_of}
@@ -10,7 +10,8 @@ use Rattle.spu_machine.specs.Spu.{sample_of, shift_of, filter_of}
 use Rattle.spu_machine.specs.Rows.{spu_row}
 use Rattle.spu_machine.specs.Floors.{spu_windows, spu_linear}
 use Rattle.spu_machine.specs.Laws.Forgetting.{spu-steps}
-use Rattle.spu_machine.specs.Laws.Outcomes.{sample-fits, output-follows, output-free}
+use Rattle.spu_machine.specs.Laws.Outcomes.{sample-fits, output-comes, output-free}
+use Rattle.spu_machine.specs.Laws.Ranges.{output-fits}
 
 -- the norms are the sums of the squares
 normed : (filter : ℕ) → IsNormed (spu_row filter)
@@ -50,6 +51,7 @@ spu_is_linear = record {
   scale = λ head. once (filter_of head);
   codes = λ p within. refl;
   steps = spu-steps;
-  outcome = output-follows;
+  range = output-fits;
+  outcome = output-comes;
   free = λ head code o r h size. output-free head code o r h (free-filter (filter_of head) size) ∙ sym (sample-at (sample_of (shift_of head)) code (pos 0) h);
 }

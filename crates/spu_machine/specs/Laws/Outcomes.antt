@@ -1,6 +1,6 @@
--- What an output can be: one of the two that clamping gives, or the filter's result.
-use Rattle.std.proofs.Common.{◌≡◌, ℕ, suc, ◌<◌, ◌≤◌, ◌^◌, arith, ap, sym, ◌∙◌, inl, inr, false, subst, ◌-◌}
-use Rattle.std.specs.Prelude.{ℤ, pos, negsuc, ◌+ℤ◌, ◌-ℤ◌, ◌*ℤ◌, ◌≤ℤ◌, unsigned_abs, List, get_or}
+-- What the filters of SPU-ADPCM come to, and what clamping leaves of it.
+use Rattle.std.proofs.Common.{◌≡◌, ℕ, zero, suc, ◌<◌, ◌^◌, arith, ap, ◌∙◌, refl}
+use Rattle.std.specs.Prelude.{ℤ, pos, negsuc, ◌+ℤ◌, ◌-ℤ◌, ◌*ℤ◌, ◌≤ℤ◌, unsigned_abs, get_or}
 use Rattle.std.proofs.lemmas.Int.{ints}
 use Rattle.adpcm_nums.specs.Nums.{floor_of, clamp16_of}
 use Rattle.adpcm_nums.specs.Nibbles.{nibble}
@@ -8,12 +8,11 @@ use Rattle.adpcm_nums.specs.Sample.{IsSample}
 use Rattle.adpcm_nums.proofs.NearestLaws.{floor-low, floor-high}
 use Rattle.adpcm_nums.proofs.FloorBounds.{floor_above, floor_below}
 use Rattle.adpcm_nums.proofs.NibbleValues.{nibble-low, nibble-high}
-use Rattle.adpcm_nums.proofs.OrderLaws.{le-or-gt}
-use Rattle.adpcm_nums.proofs.ClampLaws.{clamp-under, clamp-over, clamp-in}
-use Rattle.window_floor.specs.Outcome.{none, IsOutcome, clamped_first, clamped_second, filtered}
-use Rattle.linear_machine.specs.Linear.{MayFollow}
+use Rattle.adpcm_nums.proofs.ClampLaws.{clamp-in}
+use Rattle.window_floor.specs.Outcome.{none}
+use Rattle.window_floor.specs.Clamps.{IsResult, MayCome}
 use Rattle.linear_machine.specs.Laws.Codes.{sample-at}
-use Rattle.linear_machine.specs.Laws.Outcomes.{zero-or-more, sample-follows}
+use Rattle.linear_machine.specs.Laws.Outcomes.{clamped-comes}
 use Rattle.spu_machine.specs.Spu.{sample_of, acting_shift, prediction_of, last_weight, older_weight, raw_of, output_of, shift_of, filter_of}
 use Rattle.spu_machine.specs.Rows.{spu_row}
 use Rattle.spu_machine.specs.Floors.{samples_under, spu_windows}
@@ -28,47 +27,26 @@ sample-fits shift code h =
     let most : (nibble code *ℤ pos 4096) ≤ℤ pos 32767 = omega (arith, ints, high) in
     record { low = floor_above (nibble code *ℤ pos 4096) (2 ^ acting_shift shift) 32767 least; high = floor_below (nibble code *ℤ pos 4096) (2 ^ acting_shift shift) 32767 most }
 
--- a number is clamped low, clamped high, or left
-pub data Ends (raw : ℤ) : Type 0 where
-  over : clamp16_of raw ≡ pos 32767 → Ends raw
-  under : clamp16_of raw ≡ negsuc 32767 → Ends raw
-  plain : clamp16_of raw ≡ raw → Ends raw
-
-ends : (raw : ℤ) → Ends raw
-ends raw =
-    elim (le-or-gt (negsuc 32767) raw) [
-      | inr below ↦ under (clamp-under raw below)
-      | inl low ↦ elim (le-or-gt raw (pos 32767)) [ inr above ↦ over (clamp-over raw above) | inl high ↦ plain (clamp-in raw low high) ]
-    ]
-
--- 64 times a prediction is the weighed outputs and half of the divisor, less a rounding
-rounded : (a o b r : ℤ) → let x = a *ℤ o +ℤ b *ℤ r +ℤ pos 32 in (e : ℕ) × (e ≤ 63) × ((pos 64 *ℤ floor_of x 64) ≡ x -ℤ pos e)
-rounded a o b r =
-    let x = a *ℤ o +ℤ b *ℤ r +ℤ pos 32 in let low = floor-low x 64 (omega arith) in let high = floor-high x 64 (omega arith) in
-    (unsigned_abs (x -ℤ pos 64 *ℤ floor_of x 64), omega (arith, ints, low, high), omega (arith, ints, low, high))
-
--- so an output is an outcome of the row
-outcome : (n : ℕ) (samples : List ℤ) (code : ℕ) (o r sample : ℤ) → code < 16 → sample ≡ get_or samples code (pos 0) → Ends (sample +ℤ prediction_of (suc n) o r)
-    → IsOutcome (spu_row (suc n)) samples (pos 32767) (negsuc 32767) r o (clamp16_of (sample +ℤ prediction_of (suc n) o r))
+-- a filter's result in the numbers of its row
+result-by : (filter code : ℕ) (sample o r raw : ℤ) (shift : ℕ) → code < 16 → get_or (samples_under shift) code (pos 0) ≡ sample → raw ≡ sample +ℤ prediction_of filter o r
+    → IsResult (spu_row filter) (samples_under shift) r o raw
 unfolding prediction_of
-outcome n samples code o r sample h is (over e) = clamped_first e
-outcome n samples code o r sample h is (under e) = clamped_second e
-outcome n samples code o r sample h is (plain e) =
-    let rounds = rounded (last_weight (suc n)) o (older_weight (suc n)) r in
-    let equation = rounds.2 in
-    filtered code rounds.0 (pos 0) (sample +ℤ prediction_of (suc n) o r) h rounds.1 (none false) (omega (arith, ints, is, equation)) (e ∙ omega (arith, ints))
+result-by zero code sample o r raw shift h at is =
+    let nothing = predicts-nothing 0 o r refl in record { code = code; rounding = 0; within = h; rounds = omega arith; is = omega (arith, ints, is, at, nothing) }
+result-by (suc n) code sample o r raw shift h at is =
+    let x = last_weight (suc n) *ℤ o +ℤ older_weight (suc n) *ℤ r +ℤ pos 32 in
+    let low = floor-low x 64 (omega arith) in let high = floor-high x 64 (omega arith) in
+    record {
+      code = code;
+      rounding = unsigned_abs (x -ℤ pos 64 *ℤ floor_of x 64);
+      within = h;
+      rounds = omega (arith, ints, low, high);
+      is = omega (arith, ints, is, at, low, high);
+    }
 
-some-filter : (n : ℕ) → 1 ≤ n → n ≡ suc (n - 1)
-some-filter n h = omega arith
-
--- under filters 1 to 4
-output-tied : (head code : ℕ) (o r : ℤ) → code < 16 → 1 ≤ filter_of head
-    → IsOutcome (spu_row (filter_of head)) (samples_under (shift_of head)) (pos 32767) (negsuc 32767) r o (output_of head code o r)
-unfolding output_of raw_of
-output-tied head code o r h some =
-    let is = some-filter (filter_of head) some in
-    let at = outcome (filter_of head - 1) (samples_under (shift_of head)) code o r (sample_of (shift_of head) code) h (sym (sample-at (sample_of (shift_of head)) code (pos 0) h)) (ends _) in
-    subst (λ (n : ℕ). IsOutcome (spu_row n) (samples_under (shift_of head)) (pos 32767) (negsuc 32767) r o (clamp16_of (sample_of (shift_of head) code +ℤ prediction_of n o r))) (sym is) at
+result : (head code : ℕ) (o r : ℤ) → code < 16 → IsResult (spu_row (filter_of head)) (samples_under (shift_of head)) r o (raw_of head code o r)
+unfolding raw_of
+result head code o r h = result-by (filter_of head) code (sample_of (shift_of head) code) o r _ (shift_of head) h (sample-at (sample_of (shift_of head)) code (pos 0) h) refl
 
 -- under filter 0 an output is a sample
 pub output-free : (head code : ℕ) (o r : ℤ) → code < 16 → filter_of head ≡ 0 → output_of head code o r ≡ sample_of (shift_of head) code
@@ -79,11 +57,8 @@ output-free head code o r h f =
     ap clamp16_of raw ∙ clamp-in (sample_of (shift_of head) code) fits.low fits.high
 
 -- under every filter an output may come after the two before it
-pub output-follows : (head code : ℕ) (o r : ℤ) → code < 16 → MayFollow (spu_windows head) r o (output_of head code o r)
-output-follows head code o r h =
-    elim (zero-or-more (filter_of head)) [
-      | inl alone ↦
-          sample-follows (spu_windows head) code r o _ h (ap (λ f. (spu_row f).ca) alone) (ap (λ f. (spu_row f).cb) alone) (ap (λ f. (spu_row f).bias) alone)
-          (output-free head code o r h alone ∙ sym (sample-at (sample_of (shift_of head)) code (pos 0) h))
-      | inr some ↦ output-tied head code o r h some
-    ]
+pub output-comes : (head code : ℕ) (o r : ℤ) → code < 16 → MayCome (spu_windows head) r o (output_of head code o r)
+unfolding output_of
+output-comes head code o r h =
+    clamped-comes (spu_windows head) (λ y. y) r o (raw_of head code o r) (result head code o r h) refl refl
+    (λ low high. record { wrap = pos 0; may = none (spu_row (filter_of head)).wraps; is = omega (arith, ints) })

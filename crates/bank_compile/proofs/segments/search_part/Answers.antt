@@ -14,5 +14,5 @@ pub returns-in-Ok-clause-found : goal.returns-in-Ok-clause-found
 returns-in-Ok-clause-found g c =
     let r = g.M.Machine.rules c.args.machine.now in
     let some = (g.met.M.Machine.lawful c.args.machine.now).some_samples in
-    part-found r c.args.width c.args.share c.args.targets.now _ c.args.first c.args.count c.in-Ok.found
+    part-found r c.args.effort c.args.share c.args.targets.now _ c.args.first c.args.count c.in-Ok.found
     (part-is r.decoder c.args.targets.now c.args.first c.args.count c.block_samples-samples.result c.block_samples-samples.ensures) some c.requires.within c.in-Ok.ensures.found

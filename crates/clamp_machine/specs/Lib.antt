@@ -1,2 +1,0 @@
-pub mod Clamping
-pub mod Laws

@@ -1,0 +1,6 @@
+use Rattle.machine_core.specs.Decoder.{Decoder}
+use Rattle.path_encoder.specs.Paths.{AreStates}
+use Rattle.path_encoder.proofs.by_codes.put_all.Given as goal
+
+abbrev pub invariant-loop-path : goal.invariant-loop-path
+invariant-loop-path l = (d : Decoder) → AreStates d l.initial.made.items → AreStates d l.paths → AreStates d l.made.items

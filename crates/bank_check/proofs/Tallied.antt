@@ -154,3 +154,7 @@ fits-before ss i first blocks samples n size s here at p q whole =
 -- the bounds so far are at most what so many targets can cost
 pub grown_by : (before bound first count part after : ℕ) → after ≡ before + bound → before ≤ first * 2 ^ 32 → bound ≤ part * 2 ^ 32 → part ≡ count → after ≤ (first + count) * 2 ^ 32
 grown_by before bound first count part after e so_far small same = omega (arith, e, so_far, small, same)
+
+-- as many as were tested, and one more
+pub still_few : (after before i : ℕ) → after ≤ before + 1 → before ≤ i → after ≤ i + 1
+still_few after before i more so_far = omega (arith, more, so_far)

@@ -19,12 +19,12 @@ use Rattle.tool_block.proofs.BlockSteps.{answers_block}
 use Rattle.tool_compile.specs.Compile.{compile_course, MayStore}
 use Rattle.tool_compile.specs.Compiled.{AnswersCompile}
 use Rattle.tool_compile.proofs.CompiledSteps.{answers_compile}
-use Rattle.tool_check.specs.Check.{check_course}
-use Rattle.tool_check.specs.Checked.{MayTell, AnswersCheck}
-use Rattle.tool_check.proofs.CheckedSteps.{answers_check}
-use Rattle.tool_check.specs.Bound.{bound_course}
-use Rattle.tool_check.specs.Bounded.{MayBound, AnswersBound}
-use Rattle.tool_check.proofs.BoundedSteps.{answers_bound}
+use Rattle.tool_compare.specs.Check.{check_course}
+use Rattle.tool_compare.specs.Checked.{MayTell, AnswersCheck}
+use Rattle.tool_compare.proofs.CheckedSteps.{answers_check}
+use Rattle.tool_compare.specs.Bound.{bound_course}
+use Rattle.tool_compare.specs.Bounded.{MayBound, AnswersBound}
+use Rattle.tool_compare.proofs.BoundedSteps.{answers_bound}
 use Rattle.tool_compile.specs.Make.{make_course, IsMade, AnswersMake}
 use Rattle.tool_compile.proofs.MakeSteps.{answers_make}
 use Rattle.bank_tool.specs.Commands.{course_of, choice_of}

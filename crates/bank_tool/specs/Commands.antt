@@ -8,10 +8,10 @@ use Rattle.tool_words.specs.declared.words.Command.{Command}
 use Rattle.tool_words.specs.declared.words.Command.TheVariants.{Block, Compile, Check, Bound, Decompile, Play, Make}
 use Rattle.tool_block.specs.Block.{block_course, targets_in, IsBlock}
 use Rattle.tool_compile.specs.Compile.{compile_course, MayStore}
-use Rattle.tool_check.specs.Check.{check_course}
-use Rattle.tool_check.specs.Checked.{MayTell}
-use Rattle.tool_check.specs.Bound.{bound_course}
-use Rattle.tool_check.specs.Bounded.{MayBound}
+use Rattle.tool_compare.specs.Check.{check_course}
+use Rattle.tool_compare.specs.Checked.{MayTell}
+use Rattle.tool_compare.specs.Bound.{bound_course}
+use Rattle.tool_compare.specs.Bounded.{MayBound}
 use Rattle.tool_decompile.specs.Decompile.{decompile_course, entries_in, IsDecompiled}
 use Rattle.tool_play.specs.Played.{said_read, play_course, IsPlayed}
 use Rattle.tool_compile.specs.Make.{make_course, IsMade}

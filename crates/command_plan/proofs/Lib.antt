@@ -7,3 +7,5 @@ pub mod Promised
 pub mod Kept
 pub mod ReadOn
 pub mod ReadLoop
+pub mod Unwritten
+pub mod Telling

@@ -34,8 +34,10 @@
 
 mod closing;
 mod fetch;
+mod whole;
 mod write;
 
 pub use closing::finish;
 pub use fetch::{fetch_front, fetch_whole};
+pub use whole::whole_in;
 pub use write::write_out;

@@ -22,7 +22,7 @@ use Rattle.command_plan.proofs.Promised.{answers, done_is}
 use Rattle.command_plan.proofs.ReadOn.{then_has, then_halts, then-gives, then-gave, given_refused}
 use Rattle.command_plan.proofs.Tests.{decides, is_whole}
 use Rattle.tool_block.specs.Samples.{samples_of}
-use Rattle.tool_files.proofs.SourceSteps.{test-declines, ok-one, ok-err}
+use Rattle.command_plan.proofs.Telling.{test-declines, ok-one, ok-err}
 use Rattle.tool_block.proofs.ZeroBlock.{zero_block-legal}
 use Rattle.tool_block.specs.Block.{length_outcome, raw_in, targets_read, block_course, block_outcome, targets_in, zero_bytes, error_of, IsBlock, HasBlock, AnswersBlock}
 

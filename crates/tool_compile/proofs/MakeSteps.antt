@@ -29,8 +29,9 @@ use Rattle.command_plan.specs.Promise.{IsPlanOf, Reaches, Promises, Finishes}
 use Rattle.command_plan.specs.Steps.{Comes, writing}
 use Rattle.command_plan.proofs.Promised.{short_before, written, answers, done_is}
 use Rattle.tool_compile.specs.Make.{made_rule, made_blocks, made_shown, make_course, IsMadeIn, IsMade, IsToldIn, HasMade, AnswersMake}
-use Rattle.tool_files.proofs.Unwritten.{unwritten_files}
-use Rattle.tool_files.proofs.SourceSteps.{block_of, ok-one, ok-err}
+use Rattle.command_plan.proofs.Unwritten.{unwritten_files}
+use Rattle.command_plan.proofs.Telling.{ok-one, ok-err}
+use Rattle.tool_files.proofs.SourceSteps.{block_of}
 
 -- 256 bytes are a block of IMA ADPCM
 pub made_block : IsWithin 8 1024 4 256

@@ -22,7 +22,7 @@ use Rattle.command_plan.proofs.Readings.{reads_on}
 use Rattle.command_plan.proofs.ReadOn.{given_halts}
 use Rattle.command_plan.proofs.Tests.{decides}
 use Rattle.command_plan.proofs.Promised.{then_reaches, written}
-use Rattle.tool_files.specs.Source.{whole_in}
+use Rattle.command_plan.specs.Front.{whole_in}
 use Rattle.tool_decompile.specs.Decompile.{form_of, refusal_of, or_status, entries_from, entries_read, entries_in, entries_reading, decompile_course, IsDecompiled}
 use Rattle.tool_decompile.specs.EntryFiles.{entry_files}
 

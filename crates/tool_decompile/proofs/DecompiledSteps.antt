@@ -22,8 +22,8 @@ use Rattle.command_plan.specs.Promise.{Promises, Finishes}
 use Rattle.command_plan.proofs.Kept.{kept_at}
 use Rattle.command_plan.proofs.ReadOn.{then-count, then-outcome, written-count}
 use Rattle.command_plan.proofs.Promised.{answers, done_is}
-use Rattle.tool_files.specs.Source.{front_in}
-use Rattle.tool_files.specs.Source.{whole_in}
+use Rattle.command_plan.specs.Front.{front_in}
+use Rattle.command_plan.specs.Front.{whole_in}
 use Rattle.tool_decompile.specs.Decompile.{form_of, or_status, entries_from, entries_read, entries_in, decompile_course, IsDecompiled, HasDecompiled, AnswersDecompile}
 use Rattle.tool_decompile.specs.EntryFiles.{entry_file, entry_files, entry_name, IsKept}
 use Rattle.tool_decompile.proofs.FrontSteps.{front_set}

@@ -19,8 +19,8 @@ use Rattle.command_plan.specs.Ending.{is_device}
 use Rattle.command_plan.specs.Plan.{names_in, all_stored, PartlySet}
 use Rattle.command_plan.specs.Read.{Read, as_reading, fetched_for, read_on, written_under}
 use Rattle.command_plan.specs.Reading.{Reading, status_of}
-use Rattle.tool_files.specs.Source.{front_in}
-use Rattle.tool_files.specs.Source.{whole_in}
+use Rattle.command_plan.specs.Front.{front_in}
+use Rattle.command_plan.specs.Front.{whole_in}
 use Rattle.tool_decompile.specs.EntryFiles.{entry_files, entry_name, wave_of, AreKept, ReadsAs}
 use Rattle.tool_decompile.specs.EntryLines.{entry_lines}
 

@@ -11,12 +11,11 @@ use crate::entry_files::entry_files;
 use crate::entry_lines::entry_lines;
 use adpcm_nums::{NoMemory, Text};
 use command_faults::{InputFault, Status, input_refused};
-use command_plan::{fetch_front, finish, write_out};
+use command_plan::{fetch_front, finish, whole_in, write_out};
 use decompile_core::{DecompileFault, Form, Recovered, decompile, sounds_for_ever};
 use host_files::{Host, NamedFile};
 use machine_core::Kind;
 use std::alloc::Global;
-use tool_files::whole_in;
 
 /// The command `decompile FORM FILE OUT`: stores each entry of a file as a WAVE file, `OUT.0.wav`, `OUT.1.wav` and so on, and says a
 /// line of each. For `Brr` the file is an image, for `Spu` a VAG file and for `Ima` a WAVE file of IMA ADPCM, which have one entry.

@@ -1,4 +1,3 @@
 pub mod SourceSteps
 pub mod RoomSteps
-pub mod Unwritten
 pub mod Pairs

@@ -17,7 +17,7 @@ use Rattle.command_plan.proofs.ReadOn.{first_halts, then_reads, given_reads}
 use Rattle.tool_files.specs.declared.source.Source.{Source}
 use Rattle.tool_files.specs.Source.{rule_of}
 use Rattle.tool_files.specs.Sources.{each_read, bank_end, with_room, sources_read}
-use Rattle.tool_files.proofs.SourceSteps.{test-declines}
+use Rattle.command_plan.proofs.Telling.{test-declines}
 
 room-declines : (kind : Kind) (bank : List ℕ) (base : ℕ) (sources : List Source) → Declines (with_room kind bank base sources)
 unfolding with_room

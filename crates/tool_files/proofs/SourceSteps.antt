@@ -1,14 +1,12 @@
 -- The readings of a manifest and of a source, over plain variables.
-use Rattle.std.proofs.Common.{◌≡◌, IsTrue, ℕ, ◌+◌, ◌≤◌, List, [], ◌∷◌, ◌++◌, length, take, Bool, true, false, cond, refl, sym, ap, subst, ◌∙◌, map, All, arith, ℤ, Option, Some, None, Result, Ok, Err, nat_lt, slice_get}
+use Rattle.std.proofs.Common.{◌≡◌, IsTrue, ℕ, ◌+◌, ◌≤◌, List, [], ◌∷◌, ◌++◌, length, take, refl, sym, ap, subst, ◌∙◌, map, All, arith, ℤ, Option, Some, None, Result, Ok, Err, nat_lt, slice_get}
 use Rattle.std.specs.List.{AllZip}
 use Rattle.std.specs.Option.{IfSome}
 use Rattle.std.specs.Result.{IfOk}
 use Rattle.std.proofs.lemmas.Grind.{common_steps}
 use Rattle.std.proofs.lemmas.Bool.{and_from, eq-eqb, le-leb}
-use Rattle.adpcm_nums.specs.Outcome.{◌>>=◌}
 use Rattle.adpcm_nums.specs.Sample.{AreSamples}
 use Rattle.adpcm_nums.specs.declared.loop_at.LoopAt.{LoopAt}
-use Rattle.host_files.specs.Outside.{Files, content_of}
 use Rattle.machine_core.specs.declared.state.Kind.{Kind}
 use Rattle.machine_core.specs.declared.state.Kind.TheVariants.{Brr, Spu, Ima}
 use Rattle.loop_fit.specs.declared.rule.FitRule.{FitRule}
@@ -25,27 +23,12 @@ use Rattle.smpl_loops.specs.Loops.{first_loop_of}
 use Rattle.command_faults.specs.declared.status.Status.{Status}
 use Rattle.command_faults.specs.declared.status.Status.TheVariants.{Manifest, Input, Unfit}
 use Rattle.command_faults.specs.declared.input_fault.InputFault.TheVariants.{Wave as WaveInput, Loop, FileLong}
-use Rattle.command_plan.specs.Ending.{Declined, ending_of}
 use Rattle.command_plan.specs.Reading.{Declines}
 use Rattle.command_plan.proofs.Fronts.{take-next}
 use Rattle.tool_files.specs.declared.source.Source.{Source}
 use Rattle.tool_files.specs.Ready.{IsReady, IsReadyBy}
-use Rattle.tool_files.specs.Source.{front_in, or_told, manifest_in, sound_in, loop_in, fit_in, source_of}
-
--- a fault that is told is a refusal
-pub told-declines : {X E : Type 0} (tell : E → Status) (r : Result X E) → ((e : E) → ending_of (tell e) ≡ Declined) → Declines (or_told tell r)
-told-declines tell (Ok x) d = tt
-told-declines tell (Err e) d = d e
-
--- one reading after another
-then-declines : {X Y : Type 0} (r : Result X Status) (f : X → Result Y Status) → Declines r → ((x : X) → Declines (f x)) → Declines (r >>= f)
-then-declines (Ok x) f d k = k x
-then-declines (Err s) f d k = d
-
--- a test between two readings
-pub test-declines : {X : Type 0} (b : Bool) (r q : Result X Status) → Declines r → Declines q → Declines (cond b r q)
-test-declines true r q d k = d
-test-declines false r q d k = k
+use Rattle.command_plan.proofs.Telling.{told-declines, then-declines, test-declines}
+use Rattle.tool_files.specs.Source.{manifest_in, sound_in, loop_in, fit_in, source_of}
 
 -- a manifest is refused or read
 pub manifest-declines : (own bytes : List ℕ) → Declines (manifest_in own bytes)
@@ -129,11 +112,6 @@ map_more g xs k x ys y at e h = let next = take-next xs k x at in grind (arith, 
 pub alike_more : {X Y Z : Type 0} (f : Y → Z) (g : X → Z) (xs : List X) (ys more : List Y) (k : ℕ) (x : X) (y : Y) → slice_get xs k ≡ Some x → more ≡ ys ++ y ∷ [] → map f ys ≡ map g (take k xs) → f y ≡ g x → map f more ≡ map g (take (k + 1) xs)
 alike_more f g xs ys more k x y at e h one = ap (map f) e ∙ map_push f ys y ∙ map_more g xs k x (map f ys) (f y) at h one
 
--- the bytes that were fetched
-pub is_front : (files : Files) (name bytes : List ℕ) (most : ℕ) → bytes ≡ take (most + 1) (content_of files name) → bytes ≡ front_in files name most
-unfolding front_in
-is_front files name bytes most e = e
-
 -- lists that stand place by place are of one length
 pub zip_length : {X Y : Type 0} (R : X → Y → Type 0) (xs : List X) (ys : List Y) → AllZip R xs ys → length ys ≡ length xs
 zip_length R [] [] h = refl
@@ -148,10 +126,3 @@ map_same (x ∷ xs) = ap (λ ys. x ∷ ys) (map_same xs)
 -- nothing fails of no element
 pub all_none : {X : Type 0} (P : X → Type 0) (xs : List X) → xs ≡ [] → All P xs
 all_none P xs e = λ k d h. absurd (omega (arith, h, ap length e))
-
--- an answer is one value or one refusal
-pub ok-one : {A E : Type 0} (r : Result A E) (x y : A) → r ≡ Ok x → r ≡ Ok y → x ≡ y
-ok-one r x y one other = cc
-
-pub ok-err : {A E : Type 0} (r : Result A E) (x : A) (e : E) → r ≡ Ok x → r ≡ Err e → ⊥
-ok-err r x e good bad = cc

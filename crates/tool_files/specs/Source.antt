@@ -1,8 +1,7 @@
 -- What a manifest says, and what the file of one of its samples says: the first fault of each as the status that tells it.
-use Rattle.std.specs.Prelude.{ℕ, nat_lt, if◌then◌else◌, ◌+◌, List, length, take, Option, None, Result, Ok, Err}
+use Rattle.std.specs.Prelude.{ℕ, nat_lt, if◌then◌else◌, List, length, Option, None, Result, Ok, Err}
 use Rattle.adpcm_nums.specs.Outcome.{◌>>=◌}
 use Rattle.adpcm_nums.specs.declared.loop_at.LoopAt.{LoopAt}
-use Rattle.host_files.specs.Outside.{Files, content_of}
 use Rattle.manifest_reader.specs.declared.manifest.SampleEntry.{SampleEntry}
 use Rattle.manifest_reader.specs.Meaning.{Content, manifest_of}
 use Rattle.wave_form.specs.declared.wave.Wave.{Wave}
@@ -15,20 +14,8 @@ use Rattle.bank_kinds.specs.Kinds.{codec_for}
 use Rattle.command_faults.specs.declared.status.Status.{Status}
 use Rattle.command_faults.specs.declared.status.Status.TheVariants.{Manifest, Input, Unfit}
 use Rattle.command_faults.specs.declared.input_fault.InputFault.TheVariants.{Wave as WaveInput, Loop, FileLong}
+use Rattle.command_plan.specs.Front.{or_told}
 use Rattle.tool_files.specs.declared.source.Source.{Source}
-
--- the bytes of a file that are fetched where it may have so many: one more shows that it is longer
-unfoldable pub front_in : Files → List ℕ → ℕ → List ℕ
-front_in files name most = take (most + 1) (content_of files name)
-
--- a file that may have 8,388,608 bytes
-unfoldable pub whole_in : List ℕ → List ℕ → Result (List ℕ) Status
-whole_in file front = if nat_lt 8388608 (length front) then Err (Input file (FileLong 8388608)) else Ok front
-
--- a reading with its fault told as a status
-abbrev pub or_told : {X E : Type 0} → (E → Status) → Result X E → Result X Status
-or_told tell (Ok x) = Ok x
-or_told tell (Err e) = Err (tell e)
 
 -- the manifest of this name that bytes spell
 unfoldable pub manifest_in : List ℕ → List ℕ → Result Content Status

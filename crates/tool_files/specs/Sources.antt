@@ -12,7 +12,8 @@ use Rattle.command_faults.specs.declared.status.Status.{Status}
 use Rattle.command_faults.specs.declared.status.Status.TheVariants.{Full}
 use Rattle.command_plan.specs.Read.{Read, given, fetched_for, ◌>>=◌, read_all}
 use Rattle.tool_files.specs.declared.source.Source.{Source}
-use Rattle.tool_files.specs.Source.{front_in, manifest_in, rule_of, source_of}
+use Rattle.command_plan.specs.Front.{front_in}
+use Rattle.tool_files.specs.Source.{manifest_in, rule_of, source_of}
 
 -- the manifest of this name is fetched, and what it says decides
 abbrev pub manifest_read : Files → List ℕ → Read Content

@@ -39,11 +39,11 @@ use Rattle.command_plan.specs.Steps.{Comes, HasRead, Keeps, writing}
 use Rattle.command_plan.specs.Promise.{IsPlanOf, Reaches, Promises, Finishes}
 use Rattle.command_plan.proofs.ReadOn.{then-count, then-outcome}
 use Rattle.command_plan.proofs.Promised.{answers, done_is, then_reaches, unsaid, written}
-use Rattle.tool_files.specs.Source.{front_in}
+use Rattle.command_plan.specs.Front.{front_in}
 use Rattle.tool_play.specs.Play.{or_refused, image_in, track_unless, track_in, vag_in, only_track, vag_track_in, ima_in, only_sound, ima_track_in, output_line, play_lines, image_said, vag_said, ima_said, said_by, said_of}
 use Rattle.tool_play.specs.Played.{said_read, saying, play_course, IsPlayed, HasPlayed, AnswersPlay}
-use Rattle.tool_files.specs.Source.{whole_in}
-use Rattle.tool_files.proofs.Unwritten.{unwritten_files}
+use Rattle.command_plan.specs.Front.{whole_in}
+use Rattle.command_plan.proofs.Unwritten.{unwritten_files}
 
 whole-of : (len align : ℕ) → len % align ≡ 0 → len ≡ len / align * align
 whole-of len align e = let all = div-add-mod' len align in omega (arith, all, e)

@@ -27,7 +27,7 @@ use Rattle.command_faults.specs.declared.status.Status.{Status}
 use Rattle.command_faults.specs.declared.status.Status.TheVariants.{Input}
 use Rattle.command_faults.specs.declared.input_fault.InputFault.{InputFault}
 use Rattle.command_faults.specs.declared.input_fault.InputFault.TheVariants.{NoEntry, TooMuch, Image as OfImage, Vag as OfVag, Ima as OfIma, Track as OfTrack}
-use Rattle.tool_files.specs.Source.{whole_in}
+use Rattle.command_plan.specs.Front.{whole_in}
 
 -- what was read of a file, or its fault under the file's name
 abbrev pub or_refused : {X E : Type 0} → List ℕ → (E → InputFault) → Result X E → Result X Status

@@ -9,7 +9,7 @@ use Rattle.command_faults.specs.declared.status.Status.TheVariants.{Done, Memory
 use Rattle.command_plan.specs.Ending.{is_device}
 use Rattle.command_plan.specs.Read.{Read, as_reading, nothing, fetched_for, ◌>>=◌, written_under}
 use Rattle.command_plan.specs.Reading.{Reading, status_of}
-use Rattle.tool_files.specs.Source.{front_in}
+use Rattle.command_plan.specs.Front.{front_in}
 use Rattle.tool_play.specs.Play.{said_of}
 
 -- the file's front is fetched, and what it says of the entry decides

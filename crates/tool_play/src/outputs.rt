@@ -8,10 +8,10 @@ use crate::image_outputs::image_said;
 use crate::vag_outputs::vag_said;
 use adpcm_nums::{NoMemory, Text};
 use command_faults::Status;
+use command_plan::whole_in;
 use machine_core::Kind;
 use player_model::{StoredFormat, StoredPlayer, StoredTrack};
 use std::alloc::Global;
-use tool_files::whole_in;
 
 /// The first outputs of a track, one in a line.
 #[tactic(auto, unfolding(crate::specs::Play::play_lines))]

@@ -4,7 +4,7 @@ use Rattle.bound_cert.specs.Good.{blocks_in}
 use Rattle.bound_cert.proofs.PlaceSteps.{get-head, tail-drop}
 use Rattle.bank_check.specs.declared.tally.Tally.{Tally}
 use Rattle.bank_check.specs.Tally.{nothing, tally_from, with_segment}
-use Rattle.bank_check.proofs.Tallied.{IsTested, tested-on, tested-stops, tested-next, fits-before, one-within, tally-ends, grown_by}
+use Rattle.bank_check.proofs.Tallied.{IsTested, tested-on, tested-stops, tested-next, fits-before, one-within, tally-ends, grown_by, still_few}
 use Rattle.bank_check.proofs.tally.tally_all.Goals as goal
 
 pub tested-requires-clause-fits : goal.tested-requires-clause-fits
@@ -49,8 +49,8 @@ loop-i-preserved g c =
       first = tested-next r c.args.targets.now c.args.cert.now c.loop-i.i c.loop-i.first c.blocks-in-loop-i.result c.block_samples-samples.result c.split_first-segment.result.0 c.part.result.now is;
       bound = grown_by c.loop-i.tally.bound c.in-Ok.bound c.loop-i.first (c.blocks-in-loop-i.result * c.block_samples-samples.result) (length c.part.result.now) c.with-tally.result.bound
           (ap (λ (t : Tally). t.bound) c.with-tally.ensures.value) c.loop-i.invariant.bound c.in-Ok.ensures.small c.part.ensures.length;
-      exact = (let more = c.with-tally.ensures.exact in let so_far = c.loop-i.invariant.exact in omega (arith, more, so_far));
-      fine = (let more = c.with-tally.ensures.fine in let so_far = c.loop-i.invariant.fine in omega (arith, more, so_far));
-      coarse = (let more = c.with-tally.ensures.coarse in let so_far = c.loop-i.invariant.coarse in omega (arith, more, so_far));
-      bare = (let more = c.with-tally.ensures.bare in let so_far = c.loop-i.invariant.bare in omega (arith, more, so_far));
+      exact = still_few _ _ _ c.with-tally.ensures.exact c.loop-i.invariant.exact;
+      fine = still_few _ _ _ c.with-tally.ensures.fine c.loop-i.invariant.fine;
+      coarse = still_few _ _ _ c.with-tally.ensures.coarse c.loop-i.invariant.coarse;
+      bare = still_few _ _ _ c.with-tally.ensures.bare c.loop-i.invariant.bare;
     }

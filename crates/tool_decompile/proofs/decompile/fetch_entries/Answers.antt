@@ -3,10 +3,10 @@ use Rattle.std.proofs.lemmas.Result.{err_from_is_err_and}
 use Rattle.adpcm_nums.specs.Outcome.{Gives}
 use Rattle.command_faults.specs.declared.status.Status.TheVariants.{Memory}
 use Rattle.command_plan.proofs.ReadOn.{fetched_first}
-use Rattle.tool_files.specs.Source.{front_in}
+use Rattle.command_plan.specs.Front.{front_in}
 use Rattle.tool_decompile.specs.Decompile.{entries_from, entries_in}
 use Rattle.tool_decompile.proofs.DecompileSteps.{entries-refuses, keeps_read, reads_entries}
-use Rattle.tool_files.proofs.SourceSteps.{is_front}
+use Rattle.command_plan.proofs.Telling.{is_front}
 use Rattle.tool_decompile.proofs.decompile.fetch_entries.Goals as goal
 
 pub returns-in_err-front-clause-told : goal.returns-in_err-front-clause-told

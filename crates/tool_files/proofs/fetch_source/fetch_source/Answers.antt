@@ -6,8 +6,10 @@ use Rattle.command_plan.specs.Read.{as_reading, fetched_for}
 use Rattle.command_plan.specs.Reading.{fetched}
 use Rattle.command_plan.specs.Steps.{HasRead, Halts}
 use Rattle.command_plan.proofs.ReadOn.{fetched_first, fetched_reads}
-use Rattle.tool_files.specs.Source.{front_in, source_of}
-use Rattle.tool_files.proofs.SourceSteps.{source-declines, is_front}
+use Rattle.command_plan.specs.Front.{front_in}
+use Rattle.tool_files.specs.Source.{source_of}
+use Rattle.command_plan.proofs.Telling.{is_front}
+use Rattle.tool_files.proofs.SourceSteps.{source-declines}
 use Rattle.tool_files.proofs.fetch_source.fetch_source.Goals as goal
 
 pub returns-in_err-bytes-clause-told : goal.returns-in_err-bytes-clause-told

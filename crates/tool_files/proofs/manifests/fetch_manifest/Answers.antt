@@ -2,9 +2,11 @@ use Rattle.std.proofs.Common.{◌≡◌, ◌∙◌, subst, List, ℕ}
 use Rattle.adpcm_nums.specs.Outcome.{Gives}
 use Rattle.manifest_reader.specs.Meaning.{content_of}
 use Rattle.command_faults.specs.declared.status.Status.TheVariants.{Memory}
-use Rattle.tool_files.specs.Source.{front_in, manifest_in}
+use Rattle.command_plan.specs.Front.{front_in}
+use Rattle.tool_files.specs.Source.{manifest_in}
 use Rattle.command_plan.proofs.ReadOn.{fetched_reads}
-use Rattle.tool_files.proofs.SourceSteps.{manifest-declines, is_front}
+use Rattle.command_plan.proofs.Telling.{is_front}
+use Rattle.tool_files.proofs.SourceSteps.{manifest-declines}
 use Rattle.tool_files.proofs.manifests.fetch_manifest.Goals as goal
 
 pub returns-clause-told : goal.returns-clause-told

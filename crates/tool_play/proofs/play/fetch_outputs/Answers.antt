@@ -3,10 +3,10 @@ use Rattle.std.proofs.lemmas.Result.{err_from_is_err_and}
 use Rattle.adpcm_nums.specs.Outcome.{Gives}
 use Rattle.command_faults.specs.declared.status.Status.TheVariants.{Memory}
 use Rattle.command_plan.proofs.ReadOn.{fetched_first, fetched_reads}
-use Rattle.tool_files.specs.Source.{front_in}
+use Rattle.command_plan.specs.Front.{front_in}
 use Rattle.tool_play.specs.Play.{said_of}
 use Rattle.tool_play.specs.Played.{said_read}
-use Rattle.tool_files.proofs.SourceSteps.{is_front}
+use Rattle.command_plan.proofs.Telling.{is_front}
 use Rattle.tool_play.proofs.PlaySteps.{said_of-refuses, refuses-declines, keeps_said}
 use Rattle.tool_play.proofs.play.fetch_outputs.Goals as goal
 
